@@ -1,0 +1,56 @@
+-- Decisions: a test of the code, which is what the definition's test says, and the answer is that of the branch taken.
+use mathlib.Core.Path.{_≡_, refl, sym, ap, _∙_}
+use mathlib.Core.Bool.{Bool, true, false, _&&_, true≢false, cond, not}
+use Prim.Native.Nat.{ℕ, _≤_, _<_}
+use borrow.Author.Tests.{eq-eqb, ne-eqb, lt-ltb, le-ltb, le-leb, lt-leb}
+use lib.Dec.{eqb, ltb, leb}
+
+-- both sides of a test that passed
+pub and-left : (a b : Bool) → (a && b) ≡ true → a ≡ true
+and-left true b e = refl
+and-left false b e = e
+
+pub and-right : (a b : Bool) → (a && b) ≡ true → b ≡ true
+and-right true b e = e
+and-right false b e = absurd (true≢false (sym e))
+
+pub both : {a b : Bool} → a ≡ true → b ≡ true → (a && b) ≡ true
+both p q = rw (p, q)
+
+pub not-true : (b : Bool) → not b ≡ true → b ≡ false
+not-true true e = sym e
+not-true false e = refl
+
+pub not-false : (b : Bool) → not b ≡ false → b ≡ true
+not-false true e = refl
+not-false false e = sym e
+
+-- a property of both branches, each under its test
+pub cond-ind : {A : Type 0} (P : A → Type 0) (t : Bool) {x y : A} → (t ≡ true → P x) → (t ≡ false → P y) → P (cond t x y)
+cond-ind P true f g = f refl
+cond-ind P false f g = g refl
+
+module _ {A : Type 0} where
+  pub is-yes : (u : Bool) (a b r : A) {t : Bool} → t ≡ u → t ≡ true → r ≡ a → r ≡ cond u a b
+  is-yes u a b r e h q = rw (← e, h, q)
+
+  pub is-no : (u : Bool) (a b r : A) {t : Bool} → t ≡ u → t ≡ false → r ≡ b → r ≡ cond u a b
+  is-no u a b r e h q = rw (← e, h, q)
+
+  pub eq-yes : (y n : ℕ) (a b r : A) {x : ℕ} → x ≡ y → x ≡ n → r ≡ a → r ≡ cond (eqb y n) a b
+  eq-yes y n a b r e h q = is-yes _ a b r refl (eq-eqb y n (sym e ∙ h)) q
+
+  pub eq-no : (y n : ℕ) (a b r : A) {x : ℕ} → x ≡ y → (x ≡ n → ⊥) → r ≡ b → r ≡ cond (eqb y n) a b
+  eq-no y n a b r e h q = is-no _ a b r refl (ne-eqb y n (λ z. h (e ∙ z))) q
+
+  pub lt-yes : (y n : ℕ) (a b r : A) {x : ℕ} → x ≡ y → x < n → r ≡ a → r ≡ cond (ltb y n) a b
+  lt-yes y n a b r e h q = is-yes _ a b r refl (lt-ltb y n (rw e at h)) q
+
+  pub lt-no : (y n : ℕ) (a b r : A) {x : ℕ} → x ≡ y → n ≤ x → r ≡ b → r ≡ cond (ltb y n) a b
+  lt-no y n a b r e h q = is-no _ a b r refl (le-ltb y n (rw e at h)) q
+
+  pub le-yes : (y n : ℕ) (a b r : A) {x : ℕ} → x ≡ y → x ≤ n → r ≡ a → r ≡ cond (leb y n) a b
+  le-yes y n a b r e h q = is-yes _ a b r refl (le-leb y n (rw e at h)) q
+
+  pub le-no : (y n : ℕ) (a b r : A) {x : ℕ} → x ≡ y → n < x → r ≡ b → r ≡ cond (leb y n) a b
+  le-no y n a b r e h q = is-no _ a b r refl (lt-leb y n (rw e at h)) q

@@ -1,0 +1,25 @@
+use mathlib.Core.Path.{_≡_, ap, _∙_}
+use Prim.Native.Nat.{ℕ}
+use denote.Ref.{now}
+use lib.Seq.{sets}
+use mir.Syntax.{w32}
+use mir.ValLaws.{toZ-ofZ}
+use Rattle.fixed.specs.Bytes.{bits, fourBytes}
+use borrow.Author.Needs.{needs}
+use Rattle.fixed.proofs.bytes.put_number.Statement.{statement}
+use Rattle.fixed.proofs.bytes.put_number.Tie as tie
+
+of-signed-requires : tie.Need-of-signed-requires
+of-signed-requires c κs = search needs
+
+put-four-requires : tie.Need-put-four-requires
+put-four-requires c κs = search needs
+
+same-length : tie.Need-same-length
+same-length c = search needs
+
+returns : tie.Need-returns
+returns c = c .before .before .put-four .ensures ∙ ap (λ (n : ℕ). sets (now (c .before .before .before .before .before .before .args .out)) (c .before .before .before .before .before .before .args .at) (fourBytes n)) (c .before .before .before .of-signed .ensures ∙ ap bits (toZ-ofZ w32 _ (c .before .before .before .before .before .before .fits .v)))
+
+pub put-number-spec : {M : Type 1} → statement M
+put-number-spec = tie.close (tie.spec of-signed-requires put-four-requires same-length returns)

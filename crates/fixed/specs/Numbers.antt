@@ -1,0 +1,53 @@
+-- Document 01, "Numbers" and the whole-number parts of "Colour steps". A number is a count of millionths.
+use mathlib.Core.Bool.{cond}
+use Prim.Native.Nat.{ℕ, zero, suc, _+_, _*_, _/_}
+use lib.IntN.{ℤ, pos, negsuc, _+ℤ_, _-ℤ_, _*ℤ_}
+use lib.Ieee.{Float, binary64, div, ofInt, ofBits}
+use lib.Signed.{ltZ}
+
+-- 1000000.0, by its bits
+abbrev pub million : Float
+million = ofBits binary64 0x412e_8480_0000_0000
+
+-- the float of v: v as f64 divided by 1000000.0
+abbrev pub float : ℤ → Float
+float v = div binary64 (ofInt binary64 v) million
+
+-- the nearest to v in lo..hi
+unfoldable pub limited : ℤ → ℤ → ℤ → ℤ
+limited lo hi v = cond (ltZ v lo) lo (cond (ltZ hi v) hi v)
+
+-- the floor of z / m: that of -(n + 1) / m is -(n / m + 1)
+abbrev pub floorDiv : ℤ → ℕ → ℤ
+floorDiv (pos n) m = pos (n / m)
+floorDiv (negsuc n) m = negsuc (n / m)
+
+-- n / d rounded half up: the floor of n / d + 1 / 2, which is (2n + d) / 2d
+abbrev pub halfUp : ℤ → ℕ → ℤ
+halfUp n d = floorDiv (pos 2 *ℤ n +ℤ pos d) (2 * d)
+
+-- the same of a number that is not negative
+abbrev pub halfUpℕ : ℕ → ℕ → ℕ
+halfUpℕ n d = (2 * n + d) / (2 * d)
+
+-- x + q (y - x) / d, rounded half up
+unfoldable pub partWay : ℕ → ℕ → ℤ → ℤ → ℤ
+partWay d q x y = halfUp (pos d *ℤ x +ℤ pos q *ℤ (y -ℤ x)) d
+
+-- a palette byte v in a range lo..hi: lo + v (hi - lo) / 255, rounded half up
+abbrev pub paletteValue : ℕ → ℤ → ℤ → ℤ
+paletteValue v lo hi = partWay 255 v lo hi
+
+-- an index: v rounded half up to an integer, then taken to the nearest in 0..hival
+abbrev pub roundIndex : ℤ → ℕ → ℤ
+roundIndex v hival = limited (pos 0) (pos hival) (halfUp v 1000000)
+
+-- a tint x of 0..1000000 to an exponent: q = x; each further unit makes q the half-up rounding of q x / 1000000
+unfoldable pub tintPower : ℕ → ℕ → ℕ
+tintPower x zero = x
+tintPower x (suc zero) = x
+tintPower x (suc (suc n)) = halfUpℕ (tintPower x (suc n) * x) 1000000
+
+-- a component of the alternate space: c₀ + q (c₁ - c₀) / 1000000, rounded half up
+abbrev pub tintValue : ℤ → ℤ → ℕ → ℤ
+tintValue c₀ c₁ q = partWay 1000000 q c₀ c₁

@@ -1,0 +1,44 @@
+-- The steps of a colour on its values: a list of numbers in millionths, of any length.
+use Prim.Native.Nat.{ℕ, zero, suc, _+_, _*_}
+use mathlib.Core.List.{List, [], _∷_, _++_}
+use lib.IntN.{ℤ, pos, natAbs}
+use lib.ListN.{getD, set}
+use Rattle.fixed.specs.Numbers.{limited, roundIndex, tintPower, tintValue}
+
+-- value k, 0 where there is none
+abbrev pub value : List ℤ → ℕ → ℤ
+value v k = getD v k (pos 0)
+
+-- f 0, f 1, .., f (n - 1)
+unfoldable pub listed : (ℕ → ℤ) → ℕ → List ℤ
+listed f zero = []
+listed f (suc n) = listed f n ++ (f n ∷ [])
+
+-- the first m values are f 0, .., f (m - 1), and the others stay
+unfoldable pub filled : (ℕ → ℤ) → ℕ → List ℤ → List ℤ
+filled f zero v = v
+filled f (suc m) v = set (filled f m v) m (f m)
+
+-- n values: those given, and 0
+abbrev pub given : ℕ → List ℤ → List ℤ
+given n cs = listed (value cs) n
+
+-- value k limited to lo..hi
+unfoldable pub limitStep : ℕ → ℤ → ℤ → List ℤ → List ℤ
+limitStep k lo hi v = set v k (limited lo hi (value v k))
+
+-- the row that x picks of rows 0..h: x rounded half up, then taken to the nearest of them
+unfoldable pub indexOf : ℤ → ℕ → ℕ
+indexOf x h = natAbs (roundIndex x h)
+
+-- value 0 picks a row of the table t, whose m entries replace the first m values
+unfoldable pub rowStep : ℕ → ℕ → List ℤ → List ℤ → List ℤ
+rowStep m h t v = filled (λ k. value t (indexOf (value v 0) h * m + k)) m v
+
+-- the tint x, limited to 0..1, to the exponent e
+unfoldable pub tintOf : ℤ → ℕ → ℕ
+tintOf x e = tintPower (natAbs (limited (pos 0) (pos 1000000) x)) e
+
+-- value 0 is the tint, and m components of the alternate space replace the first m values
+unfoldable pub tintStep : ℕ → ℕ → List ℤ → List ℤ → List ℤ → List ℤ
+tintStep e m c₀ c₁ v = filled (λ k. tintValue (value c₀ k) (value c₁ k) (tintOf (value v 0) e)) m v

@@ -1,0 +1,95 @@
+// Numbers in bytes, the most significant byte first, signed ones in two's complement.
+//
+// A number is read at a place of a block: byte `at` of block n of a page. A block that stands alone is block 0. A byte past the end is 0.
+ghost use mathlib.Core.Path.{_≡_};
+ghost use Prim.Native.Nat.{_+_, _%_, _<_, _≤_};
+ghost use lib.ListN.{length};
+ghost use lib.Seq.{sets};
+ghost use Rattle.fixed.specs.Bytes.{blockAt, byteAt, twoAt, fourAt, numberAt, signed, bits, twoBytes, fourBytes, numberBytes};
+use crate::rounding::lowered;
+use crate::rounding::raised;
+
+// The number whose bits are u's.
+pub fn to_signed(u: u32) -> i32
+    ensures { λ r. ⌜ r ≡ signed u ⌝ }
+{
+    let t = u as u64;
+    if u < 2147483648 {
+        return lowered(t + 2147483648);
+    }
+    lowered(t - 2147483648)
+}
+
+// The bits of v.
+pub fn of_signed(v: i32) -> u32
+    ensures { λ r. ⌜ r ≡ bits v ⌝ }
+{
+    let a = raised(v);
+    if a < 2147483648 {
+        return (a + 2147483648) as u32;
+    }
+    (a - 2147483648) as u32
+}
+
+// Byte `at` of block n.
+pub fn byte(page: &[u8], n: u32, at: u32) -> u32
+    ensures is { λ r. ⌜ r ≡ byteAt (blockAt (now (page .entry)) n) at ⌝ }
+    ensures small { λ r. ⌜ r ≤ 255 ⌝ }
+{
+    let k = 512 * (n as usize) + (at as usize);
+    if k < page.len() { page[k] as u32 } else { 0 }
+}
+
+// The number in the two bytes from `at` on of block n.
+pub fn two(page: &[u8], n: u32, at: u32) -> u32
+    requires { ⌜ at < 512 ⌝ }
+    ensures is { λ r. ⌜ r ≡ twoAt (blockAt (now (page .entry)) n) at ⌝ }
+    ensures small { λ r. ⌜ r ≤ 65535 ⌝ }
+{
+    byte(page, n, at) * 256 + byte(page, n, at + 1)
+}
+
+// The signed number in the four bytes from `at` on of block n.
+pub fn number(page: &[u8], n: u32, at: u32) -> i32
+    requires { ⌜ at < 512 ⌝ }
+    ensures { λ r. ⌜ r ≡ numberAt (blockAt (now (page .entry)) n) at ⌝ }
+{
+    let a = byte(page, n, at);
+    let b = byte(page, n, at + 1);
+    let c = byte(page, n, at + 2);
+    let d = byte(page, n, at + 3);
+    to_signed(((a * 256 + b) * 256 + c) * 256 + d)
+}
+
+fn low_byte(x: u32) -> u8
+    ensures { λ r. ⌜ r ≡ x % 256 ⌝ }
+{
+    (x % 256) as u8
+}
+
+// Stores v in two bytes from `at` on.
+pub fn put_two(out: &mut [u8], at: usize, v: u32)
+    requires { ⌜ at + 2 ≤ length (now out) ⌝ }
+    ensures { λ _. ⌜ now (out .exit) ≡ sets (now (out .entry)) at (twoBytes v) ⌝ }
+{
+    out[at] = low_byte(v / 256);
+    out[at + 1] = low_byte(v);
+}
+
+fn put_four(out: &mut [u8], at: usize, v: u32)
+    requires { ⌜ at + 4 ≤ length (now out) ⌝ }
+    ensures { λ _. ⌜ now (out .exit) ≡ sets (now (out .entry)) at (fourBytes v) ⌝ }
+{
+    out[at] = low_byte(v / 16777216);
+    out[at + 1] = low_byte(v / 65536);
+    out[at + 2] = low_byte(v / 256);
+    out[at + 3] = low_byte(v);
+}
+
+// Stores v in four bytes from `at` on.
+pub fn put_number(out: &mut [u8], at: usize, v: i32)
+    requires { ⌜ at + 4 ≤ length (now out) ⌝ }
+    ensures { λ _. ⌜ now (out .exit) ≡ sets (now (out .entry)) at (numberBytes v) ⌝ }
+{
+    put_four(out, at, of_signed(v));
+}

@@ -1,0 +1,22 @@
+// Fixed-point numbers: signed 32-bit counts of millionths, as a record or a colour component has them. How they stand in bytes, how they are
+// limited and rounded, and their floats.
+mod bytes;
+mod float;
+mod limits;
+mod rounding;
+
+pub use bytes::byte;
+pub use bytes::number;
+pub use bytes::of_signed;
+pub use bytes::put_number;
+pub use bytes::put_two;
+pub use bytes::to_signed;
+pub use bytes::two;
+pub use float::float_of;
+pub use limits::limit;
+pub use limits::unit_part;
+pub use rounding::palette_value;
+pub use rounding::part_way;
+pub use rounding::round_index;
+pub use rounding::tint_power;
+pub use rounding::tint_value;

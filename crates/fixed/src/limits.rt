@@ -1,0 +1,32 @@
+// Taking a number to the nearest in a range.
+ghost use mathlib.Core.Path.{_≡_};
+ghost use Prim.Native.Nat.{_≤_};
+ghost use lib.IntN.{pos, natAbs};
+ghost use Rattle.fixed.specs.Numbers.{limited};
+
+// The nearest to v in lo..hi.
+pub fn limit(v: i32, lo: i32, hi: i32) -> i32
+    ensures { λ r. ⌜ r ≡ limited lo hi v ⌝ }
+{
+    if v < lo {
+        return lo;
+    }
+    if hi < v {
+        return hi;
+    }
+    v
+}
+
+// v limited to 0..1, which is not negative: a tint.
+pub fn unit_part(v: i32) -> u32
+    ensures is { λ r. ⌜ r ≡ natAbs (limited (pos 0) (pos 1000000) v) ⌝ }
+    ensures small { λ r. ⌜ r ≤ 1000000 ⌝ }
+{
+    if v < 0 {
+        return 0;
+    }
+    if 1000000 < v {
+        return 1000000;
+    }
+    v as u32
+}

@@ -1,0 +1,79 @@
+// Half-up roundings: an index, a palette value, a tint.
+//
+// Sums and products are over numbers raised by 2^31, which are never negative.
+ghost use mathlib.Core.Path.{_≡_};
+ghost use lib.IntN.{pos, subℕ};
+ghost use Prim.Native.Nat.{_<_, _≤_, _^_};
+ghost use Rattle.fixed.specs.Numbers.{partWay, paletteValue, tintPower, tintValue, roundIndex};
+
+// v + 2^31.
+pub fn raised(v: i32) -> u64
+    ensures { λ r. ⌜ (r < 2 ^ 32) × (v ≡ subℕ r (2 ^ 31)) ⌝ }
+{
+    (v as i64 + 2147483648) as u64
+}
+
+// u - 2^31.
+pub fn lowered(u: u64) -> i32
+    requires { ⌜ u < 2 ^ 32 ⌝ }
+    ensures { λ r. ⌜ r ≡ subℕ u (2 ^ 31) ⌝ }
+{
+    (u as i64 - 2147483648) as i32
+}
+
+// x + q (y - x) / d, rounded half up. y may be below x.
+pub fn part_way(x: i32, y: i32, q: u64, d: u64) -> i32
+    requires { ⌜ (q ≤ d) × (0 < d) × (d ≤ 1000000) ⌝ }
+    ensures { λ r. ⌜ r ≡ partWay d q x y ⌝ }
+{
+    let a = raised(x);
+    let b = raised(y);
+    let n = (d - q) * a + q * b;
+    lowered((2 * n + d) / (2 * d))
+}
+
+// The value of a palette byte b in the range lo..hi.
+pub fn palette_value(b: u32, lo: i32, hi: i32) -> i32
+    requires { ⌜ b ≤ 255 ⌝ }
+    ensures { λ r. ⌜ r ≡ paletteValue b lo hi ⌝ }
+{
+    part_way(lo, hi, b as u64, 255)
+}
+
+// The tint x, of 0..1 in millionths, to an exponent of whole units.
+pub fn tint_power(x: u32, exponent: u32) -> u32
+    requires { ⌜ x ≤ 1000000 ⌝ }
+    ensures is { λ r. ⌜ r ≡ tintPower x exponent ⌝ }
+    ensures small { λ r. ⌜ r ≤ 1000000 ⌝ }
+{
+    let tint = x as u64;
+    let mut q = tint;
+    let mut i: u32 = 1;
+    while i < exponent {
+        q = (2 * (q * tint) + 1000000) / 2000000;
+        i += 1;
+    }
+    q as u32
+}
+
+// A component of the alternate space: q millionths of the way from c0 to c1.
+pub fn tint_value(c0: i32, c1: i32, q: u32) -> i32
+    requires { ⌜ q ≤ 1000000 ⌝ }
+    ensures { λ r. ⌜ r ≡ tintValue c0 c1 q ⌝ }
+{
+    part_way(c0, c1, q as u64, 1000000)
+}
+
+// v millionths to the nearest whole number, up at a half, and then the nearest to that in 0..hival.
+pub fn round_index(v: i32, hival: u32) -> u32
+    ensures { λ r. ⌜ pos r ≡ roundIndex v hival ⌝ }
+{
+    if v < 500000 {
+        return 0;
+    }
+    let n = (v as u32 + 500000) / 1000000;
+    if hival < n {
+        return hival;
+    }
+    n
+}
