@@ -5,6 +5,10 @@ use lib.IntN.{ℤ, pos, natAbs}
 use lib.ListN.{getD, set}
 use Rattle.fixed.specs.Numbers.{limited, roundIndex, tintPower, tintValue}
 
+-- how many values there are
+abbrev pub places : ℕ
+places = 4
+
 -- value k, 0 where there is none
 abbrev pub value : List ℤ → ℕ → ℤ
 value v k = getD v k (pos 0)

@@ -20,3 +20,6 @@ pub use rounding::part_way;
 pub use rounding::round_index;
 pub use rounding::tint_power;
 pub use rounding::tint_value;
+
+// How many values a colour's steps act on.
+pub const VALUES: usize = 4;

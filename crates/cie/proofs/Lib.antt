@@ -1,0 +1,5 @@
+-- Laws that several proofs cite.
+pub mod Exp
+pub mod One
+pub mod Decodes
+pub mod Facts

@@ -1,0 +1,42 @@
+-- The closing steps: from values, which they read as they stand, to a reply. Evaluating a colour and running a recipe both end here.
+use mathlib.Core.List.{List, [], _∷_}
+use lib.IntN.{ℤ}
+use Rattle.fixed.specs.Numbers.{float}
+use Rattle.fixed.specs.Values.{value}
+use Rattle.cie.specs.declared.Xyz.{Xyz}
+use Rattle.cie.specs.declared.GrayClosing.{GrayClosing}
+use Rattle.cie.specs.declared.RgbClosing.{RgbClosing}
+use Rattle.cie.specs.declared.LabClosing.{LabClosing}
+use Rattle.cie.specs.declared.Closing.{Closing}
+use Rattle.cie.specs.declared.Closing.the-variants.{Nothing, Gray, Rgb, Cmyk, CalGray, CalRgb, Lab}
+use Rattle.cie.specs.Answers.{Reply, answer, refusal, inGray, inRgb, inCmyk, inXyz}
+use Rattle.cie.specs.Steps.{unitsOf, decoded, whiteOf, grayOf, matrixOf, rgbOf, labOf}
+
+-- CalGray, of a component in millionths
+abbrev pub calGrayOf : GrayClosing → ℤ → Xyz
+calGrayOf k a = grayOf (whiteOf (k .xw) (k .zw)) (decoded (float a) (unitsOf (k .gamma)))
+
+-- CalRGB, each component decoded by its own gamma
+abbrev pub calRgbOf : RgbClosing → ℤ → ℤ → ℤ → Xyz
+calRgbOf k a b c =
+    rgbOf (matrixOf (k .xa) (k .ya) (k .za) (k .xb) (k .yb) (k .zb) (k .xc) (k .yc) (k .zc))
+    (decoded (float a) (unitsOf (k .ga)))
+    (decoded (float b) (unitsOf (k .gb)))
+    (decoded (float c) (unitsOf (k .gc)))
+
+abbrev pub calLabOf : LabClosing → ℤ → ℤ → ℤ → Xyz
+calLabOf k l a b = labOf (whiteOf (k .xw) (k .zw)) l a b
+
+-- the floats of an X, Y and Z
+abbrev pub inThree : Xyz → Reply
+inThree p = answer inXyz (p .x ∷ p .y ∷ p .z ∷ [])
+
+-- what the values reply; a number that is no space's has refusal 8
+unfoldable pub closed : Closing → List ℤ → Reply
+closed Nothing v = refusal 8 0
+closed Gray v = answer inGray (float (value v 0) ∷ [])
+closed Rgb v = answer inRgb (float (value v 0) ∷ float (value v 1) ∷ float (value v 2) ∷ [])
+closed Cmyk v = answer inCmyk (float (value v 0) ∷ float (value v 1) ∷ float (value v 2) ∷ float (value v 3) ∷ [])
+closed (CalGray k) v = inThree (calGrayOf k (value v 0))
+closed (CalRgb k) v = inThree (calRgbOf k (value v 0) (value v 1) (value v 2))
+closed (Lab k) v = inThree (calLabOf k (value v 0) (value v 1) (value v 2))

@@ -1,0 +1,101 @@
+-- Document 01, "Colour steps", on f64: each operation rounds once, in the order written.
+use Prim.Native.Nat.{ℕ, zero, suc, _/_}
+use mathlib.Core.Bool.{Bool, cond}
+use mathlib.Core.List.{List, [], _∷_}
+use lib.IntN.{ℤ, pos, negsuc, _+ℤ_, _-ℤ_, _*ℤ_}
+use lib.Signed.{leZ}
+use lib.Ieee.{Float, binary64, nan, add, mul, div, ofInt, ofBits}
+use lib.ListN.{getD}
+use Rattle.fixed.specs.Numbers.{float}
+use Rattle.cie.specs.declared.Xyz.{Xyz}
+
+-- a whole number as a float: exact below 2⁵³
+abbrev pub whole : ℕ → Float
+whole n = ofInt binary64 (pos n)
+
+-- 1.0, by its bits
+abbrev pub one : Float
+one = ofBits binary64 0x3ff0_0000_0000_0000
+
+-- ---- Decode
+
+-- the whole units of a gamma in millionths
+unfoldable pub unitsOf : ℤ → ℕ
+unitsOf (pos n) = n / 1000000
+unitsOf (negsuc n) = 0
+
+-- a to gamma 1 is a; each further unit multiplies the product so far by a
+unfoldable pub decoded : Float → ℕ → Float
+decoded a zero = a
+decoded a (suc zero) = a
+decoded a (suc (suc n)) = mul binary64 (decoded a (suc n)) a
+
+-- ---- CalGray
+
+-- the white point of X and Z in millionths; its Y is 1
+abbrev pub whiteOf : ℤ → ℤ → Xyz
+whiteOf xw zw = record { x = float xw; y = one; z = float zw }
+
+-- a the decoded float: X = float(XW) a, Y = a, Z = float(ZW) a
+abbrev pub grayOf : Xyz → Float → Xyz
+grayOf w a = record { x = mul binary64 (w .x) a; y = a; z = mul binary64 (w .z) a }
+
+-- ---- CalRGB
+
+-- the matrix: three rows of three floats, in the record's order, so that the first row belongs to A
+abbrev pub matrixOf : ℤ → ℤ → ℤ → ℤ → ℤ → ℤ → ℤ → ℤ → ℤ → List (List Float)
+matrixOf xa ya za xb yb zb xc yc zc =
+    (float xa ∷ float ya ∷ float za ∷ [])
+    ∷ (float xb ∷ float yb ∷ float zb ∷ [])
+    ∷ (float xc ∷ float yc ∷ float zc ∷ [])
+    ∷ []
+
+-- the number in row i, column j
+abbrev pub entry : List (List Float) → ℕ → ℕ → Float
+entry m i j = getD (getD m i []) j nan
+
+-- ((p a) + (q b)) + (r c)
+abbrev pub dot : Float → Float → Float → Float → Float → Float → Float
+dot p q r a b c = add binary64 (add binary64 (mul binary64 p a) (mul binary64 q b)) (mul binary64 r c)
+
+-- X = ((XA a) + (XB b)) + (XC c), likewise Y and Z
+abbrev pub rgbOf : List (List Float) → Float → Float → Float → Xyz
+rgbOf m a b c =
+    record {
+      x = dot (entry m 0 0) (entry m 1 0) (entry m 2 0) a b c;
+      y = dot (entry m 0 1) (entry m 1 1) (entry m 2 1) a b c;
+      z = dot (entry m 0 2) (entry m 1 2) (entry m 2 2) a b c;
+    }
+
+-- ---- Lab, of whole l, a, b in millionths
+
+-- p = 125 (l + 16000000) + 29 a, and n = 50 (l + 16000000) - 29 b
+abbrev pub labP : ℤ → ℤ → ℤ
+labP l a = pos 125 *ℤ (l +ℤ pos 16000000) +ℤ pos 29 *ℤ a
+
+abbrev pub labN : ℤ → ℤ → ℤ
+labN l b = pos 50 *ℤ (l +ℤ pos 16000000) -ℤ pos 29 *ℤ b
+
+-- (x x) x
+abbrev pub cubed : Float → Float
+cubed x = mul binary64 (mul binary64 x x) x
+
+-- the cube of v / top where the test passed, and low / bottom where it did not
+unfoldable pub share : Bool → ℤ → Float → ℤ → Float → Float
+share t v top low bottom = cond t (cubed (div binary64 (ofInt binary64 v) top)) (div binary64 (ofInt binary64 low) bottom)
+
+-- first: if p >= 3000000000, p / 14500000000 cubed; else 108 (p - 2000000000) / 12194500000000
+unfoldable pub first : ℤ → Float
+first p = share (leZ (pos 3000000000) p) p (whole 14500000000) (pos 108 *ℤ (p -ℤ pos 2000000000)) (whole 12194500000000)
+
+-- second: if l >= 8000000, (l + 16000000) / 116000000 cubed; else 108 l / 97556000000
+unfoldable pub second : ℤ → Float
+second l = share (leZ (pos 8000000) l) (l +ℤ pos 16000000) (whole 116000000) (pos 108 *ℤ l) (whole 97556000000)
+
+-- third: if n >= 1200000000, n / 5800000000 cubed; else 108 (n - 800000000) / 4877800000000
+unfoldable pub third : ℤ → Float
+third n = share (leZ (pos 1200000000) n) n (whole 5800000000) (pos 108 *ℤ (n -ℤ pos 800000000)) (whole 4877800000000)
+
+-- X = float(XW) g of the first, Y = g of the second, Z = float(ZW) g of the third
+abbrev pub labOf : Xyz → ℤ → ℤ → ℤ → Xyz
+labOf w l a b = record { x = mul binary64 (w .x) (first (labP l a)); y = second l; z = mul binary64 (w .z) (third (labN l b)) }

@@ -1,0 +1,67 @@
+// The closing steps: from the values, as they stand, to an answer.
+ghost use mathlib.Core.Path.{_≡_};
+ghost use Rattle.fixed.specs.Values.{value};
+ghost use Rattle.cie.specs.Answers.{meaning};
+ghost use Rattle.cie.specs.Closings.{calGrayOf, calRgbOf, calLabOf, closed};
+use crate::Answer;
+use crate::Closing;
+use crate::GrayClosing;
+use crate::LabClosing;
+use crate::RgbClosing;
+use crate::Xyz;
+use crate::lab_step::lab;
+use crate::steps::decode;
+use crate::steps::gray;
+use crate::steps::matrix;
+use crate::steps::rgb;
+use crate::steps::units;
+use crate::steps::white;
+use fixed::VALUES;
+use fixed::float_of;
+
+fn close_gray(k: GrayClosing, a: i32) -> Xyz
+    ensures { λ r. ⌜ r ≡ calGrayOf k a ⌝ }
+{
+    gray(white(k.xw, k.zw), decode(float_of(a), units(k.gamma)))
+}
+
+fn close_rgb(k: RgbClosing, a: i32, b: i32, c: i32) -> Xyz
+    ensures { λ r. ⌜ r ≡ calRgbOf k a b c ⌝ }
+{
+    let m = matrix(k.xa, k.ya, k.za, k.xb, k.yb, k.zb, k.xc, k.yc, k.zc);
+    rgb(
+        m,
+        decode(float_of(a), units(k.ga)),
+        decode(float_of(b), units(k.gb)),
+        decode(float_of(c), units(k.gc)),
+    )
+}
+
+fn close_lab(k: LabClosing, l: i32, a: i32, b: i32) -> Xyz
+    ensures { λ r. ⌜ r ≡ calLabOf k l a b ⌝ }
+{
+    lab(white(k.xw, k.zw), l, a, b)
+}
+
+// What the values answer. They are not limited here.
+pub fn close(k: Closing, v: [i32; VALUES]) -> Answer
+    ensures { λ r. ⌜ meaning r ≡ closed k v ⌝ }
+{
+    match k {
+        Closing::Nothing => Answer::Refused {
+            number: 8,
+            block: 0,
+        },
+        Closing::Gray => Answer::Gray(float_of(v[0])),
+        Closing::Rgb => Answer::Rgb(float_of(v[0]), float_of(v[1]), float_of(v[2])),
+        Closing::Cmyk => Answer::Cmyk(
+            float_of(v[0]),
+            float_of(v[1]),
+            float_of(v[2]),
+            float_of(v[3]),
+        ),
+        Closing::CalGray(g) => Answer::Xyz(close_gray(g, v[0])),
+        Closing::CalRgb(g) => Answer::Xyz(close_rgb(g, v[0], v[1], v[2])),
+        Closing::Lab(g) => Answer::Xyz(close_lab(g, v[0], v[1], v[2])),
+    }
+}

@@ -1,0 +1,69 @@
+// From numbers to colours: the steps on f64, each operation rounded once and in document 01's order, and the closing steps that end in an answer.
+mod closings;
+mod lab_step;
+mod steps;
+
+pub use closings::close;
+pub use lab_step::lab;
+pub use steps::decode;
+pub use steps::gray;
+pub use steps::matrix;
+pub use steps::rgb;
+pub use steps::units;
+pub use steps::white;
+
+// A white point, or a colour's X, Y and Z.
+pub struct Xyz {
+    pub x: f64,
+    pub y: f64,
+    pub z: f64,
+}
+
+// What is replied to a colour: its floats, or the refusal's number with the block that it is about (0 for the others).
+pub enum Answer {
+    Gray(f64),
+    Rgb(f64, f64, f64),
+    Cmyk(f64, f64, f64, f64),
+    Xyz(Xyz),
+    Refused { number: u32, block: u32 },
+}
+
+// The numbers of CalGray's closing step: X and Z of the white point, and the gamma.
+pub struct GrayClosing {
+    pub xw: i32,
+    pub zw: i32,
+    pub gamma: i32,
+}
+
+// Those of CalRGB's: three gammas, and the matrix in the record's order.
+pub struct RgbClosing {
+    pub ga: i32,
+    pub gb: i32,
+    pub gc: i32,
+    pub xa: i32,
+    pub ya: i32,
+    pub za: i32,
+    pub xb: i32,
+    pub yb: i32,
+    pub zb: i32,
+    pub xc: i32,
+    pub yc: i32,
+    pub zc: i32,
+}
+
+// Those of Lab's: X and Z of the white point.
+pub struct LabClosing {
+    pub xw: i32,
+    pub zw: i32,
+}
+
+// The closing step of a space. Nothing is that of no space.
+pub enum Closing {
+    Nothing,
+    Gray,
+    Rgb,
+    Cmyk,
+    CalGray(GrayClosing),
+    CalRgb(RgbClosing),
+    Lab(LabClosing),
+}

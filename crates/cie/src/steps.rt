@@ -1,0 +1,93 @@
+// Decode, CalGray and CalRGB.
+ghost use mathlib.Core.Path.{_≡_};
+ghost use Rattle.cie.specs.Steps.{unitsOf, decoded, whiteOf, matrixOf, grayOf, rgbOf};
+use crate::Xyz;
+
+// The white point of X and Z in millionths, Y being 1.
+pub fn white(xw: i32, zw: i32) -> Xyz
+    ensures { λ r. ⌜ r ≡ whiteOf xw zw ⌝ }
+{
+    Xyz {
+        x: (xw as f64) / 1000000.0,
+        y: 1.0,
+        z: (zw as f64) / 1000000.0,
+    }
+}
+
+// The matrix of nine numbers in millionths: three rows of three floats, a row to each component.
+pub fn matrix(
+    xa: i32,
+    ya: i32,
+    za: i32,
+    xb: i32,
+    yb: i32,
+    zb: i32,
+    xc: i32,
+    yc: i32,
+    zc: i32,
+) -> [[f64; 3]; 3]
+    ensures { λ r. ⌜ r ≡ matrixOf xa ya za xb yb zb xc yc zc ⌝ }
+{
+    [
+        [
+            (xa as f64) / 1000000.0,
+            (ya as f64) / 1000000.0,
+            (za as f64) / 1000000.0,
+        ],
+        [
+            (xb as f64) / 1000000.0,
+            (yb as f64) / 1000000.0,
+            (zb as f64) / 1000000.0,
+        ],
+        [
+            (xc as f64) / 1000000.0,
+            (yc as f64) / 1000000.0,
+            (zc as f64) / 1000000.0,
+        ],
+    ]
+}
+
+// How many whole units a gamma in millionths has.
+pub fn units(gamma: i32) -> u32
+    ensures { λ r. ⌜ r ≡ unitsOf gamma ⌝ }
+{
+    if gamma < 0 {
+        return 0;
+    }
+    (gamma as u32) / 1000000
+}
+
+// a to the power of gamma units.
+pub fn decode(a: f64, gamma: u32) -> f64
+    ensures { λ r. ⌜ r ≡ decoded a gamma ⌝ }
+{
+    let mut r = a;
+    let mut k: u32 = 1;
+    while k < gamma {
+        r = r * a;
+        k += 1;
+    }
+    r
+}
+
+// CalGray, of a component that is decoded.
+pub fn gray(w: Xyz, a: f64) -> Xyz
+    ensures { λ r. ⌜ r ≡ grayOf w a ⌝ }
+{
+    Xyz {
+        x: w.x * a,
+        y: a,
+        z: w.z * a,
+    }
+}
+
+// CalRGB, of components that are decoded.
+pub fn rgb(m: [[f64; 3]; 3], a: f64, b: f64, c: f64) -> Xyz
+    ensures { λ r. ⌜ r ≡ rgbOf m a b c ⌝ }
+{
+    Xyz {
+        x: m[0][0] * a + m[1][0] * b + m[2][0] * c,
+        y: m[0][1] * a + m[1][1] * b + m[2][1] * c,
+        z: m[0][2] * a + m[1][2] * b + m[2][2] * c,
+    }
+}
