@@ -1,11 +1,13 @@
 -- What a test of two signed numbers says, of the numbers and not of their bits.
-use mathlib.Core.Path.{_≡_, refl, sym, _∙_, ap}
+use mathlib.Core.Path.{_≡_, refl, sym, _∙_, ap, subst}
 use mathlib.Core.Bool.{Bool, true, false}
-use lib.IntN.{ℤ}
-use lib.Signed.{mag, ltZ, leZ}
+use native.Mathlib.Omega.{arith}
+use lib.IntN.{ℤ, pos, negsuc, natAbs}
+use lib.Dec.{T}
+use lib.Signed.{mag, ltZ, leZ, nonNeg}
 use Prim.Native.Nat.{_<_, _^_}
 use mir.Syntax.{Width, w32}
-use mir.Val.{SFits, toZ, ofZ}
+use mir.Val.{Fits, SFits, toZ, ofZ}
 use mir.ValLaws.{toZ-ofZ}
 
 pub tested : {w : Width} {a b : ℤ} {t : Bool} → SFits w a → SFits w b → ltZ (toZ w (ofZ w a)) (toZ w (ofZ w b)) ≡ t → ltZ a b ≡ t
@@ -26,3 +28,12 @@ back! {z} h = toZ-ofZ w32 z h
 -- a number that came, and is y
 pub heard : (z : ℤ) {y : ℤ} → mag z < 2 ^ 31 → z ≡ y → toZ w32 (ofZ w32 z) ≡ y
 heard z h e = came z h ∙ e
+
+-- a number that is not below 0, and its size as an unsigned one
+pub sign : (z : ℤ) → ltZ z (pos 0) ≡ false → T (nonNeg z)
+sign (pos n) e = tt
+sign (negsuc n) e = subst (λ (b : Bool). T b) e tt
+
+pub fit : (z : ℤ) → mag z < 2 ^ 31 → T (nonNeg z) → Fits w32 (natAbs z)
+fit (pos n) h t = record { fits = omega arith }
+fit (negsuc n) h t = absurd t

@@ -1,9 +1,10 @@
 -- Document 01, "Numbers" and the whole-number parts of "Colour steps". A number is a count of millionths.
-use mathlib.Core.Bool.{cond}
-use Prim.Native.Nat.{ℕ, zero, suc, _+_, _*_, _/_}
+use mathlib.Core.Bool.{Bool, false, cond, _&&_}
+use Prim.Native.Nat.{ℕ, zero, suc, _+_, _*_, _/_, _%_}
 use lib.IntN.{ℤ, pos, negsuc, _+ℤ_, _-ℤ_, _*ℤ_}
 use lib.Ieee.{Float, binary64, div, ofInt, ofBits}
 use lib.Signed.{ltZ}
+use lib.Dec.{eqb, leb}
 
 -- 1000000.0, by its bits
 abbrev pub million : Float
@@ -51,3 +52,17 @@ tintPower x (suc (suc n)) = halfUpℕ (tintPower x (suc n) * x) 1000000
 -- a component of the alternate space: c₀ + q (c₁ - c₀) / 1000000, rounded half up
 abbrev pub tintValue : ℤ → ℤ → ℕ → ℤ
 tintValue c₀ c₁ q = partWay 1000000 q c₀ c₁
+
+-- ---- House limits: each gamma and each exponent is whole, 1 to 4
+
+abbrev pub greatest : ℕ
+greatest = 4
+
+-- an exponent, which counts units
+abbrev pub exponentSupported : ℕ → Bool
+exponentSupported e = leb 1 e && leb e greatest
+
+-- a gamma, in millionths
+unfoldable pub gammaSupported : ℤ → Bool
+gammaSupported (pos n) = eqb (n % 1000000) 0 && exponentSupported (n / 1000000)
+gammaSupported (negsuc n) = false

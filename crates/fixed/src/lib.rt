@@ -13,6 +13,8 @@ pub use bytes::put_two;
 pub use bytes::to_signed;
 pub use bytes::two;
 pub use float::float_of;
+pub use limits::is_exponent;
+pub use limits::is_gamma;
 pub use limits::limit;
 pub use limits::unit_part;
 pub use rounding::palette_value;

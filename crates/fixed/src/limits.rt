@@ -1,8 +1,8 @@
-// Taking a number to the nearest in a range.
+// Taking a number to the nearest in a range, and the house limits on gammas and exponents.
 ghost use mathlib.Core.Path.{_≡_};
 ghost use Prim.Native.Nat.{_≤_};
 ghost use lib.IntN.{pos, natAbs};
-ghost use Rattle.fixed.specs.Numbers.{limited};
+ghost use Rattle.fixed.specs.Numbers.{limited, exponentSupported, gammaSupported};
 
 // The nearest to v in lo..hi.
 pub fn limit(v: i32, lo: i32, hi: i32) -> i32
@@ -29,4 +29,25 @@ pub fn unit_part(v: i32) -> u32
         return 1000000;
     }
     v as u32
+}
+
+// The greatest gamma and the greatest exponent, in units.
+const GREATEST: u32 = 4;
+
+// Whether an exponent is within the house limit.
+pub fn is_exponent(e: u32) -> bool
+    ensures { λ r. ⌜ r ≡ exponentSupported e ⌝ }
+{
+    (1 <= e) & (e <= GREATEST)
+}
+
+// Whether a gamma is.
+pub fn is_gamma(v: i32) -> bool
+    ensures { λ r. ⌜ r ≡ gammaSupported v ⌝ }
+{
+    if v < 0 {
+        return false;
+    }
+    let n = v as u32;
+    (n % 1000000 == 0) & is_exponent(n / 1000000)
 }

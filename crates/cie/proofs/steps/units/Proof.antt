@@ -8,7 +8,7 @@ use lib.Signed.{mag, ltZ, nonNeg}
 use mir.Syntax.{w32}
 use mir.Val.{Fits}
 use borrow.Author.Tests.{ltb-true}
-use Rattle.fixed.proofs.Signs.{back! }
+use Rattle.fixed.proofs.Signs.{back!, sign, fit}
 use Rattle.cie.specs.Steps.{unitsOf}
 use borrow.Author.Needs.{needs}
 use Rattle.cie.proofs.steps.units.Statement.{statement}
@@ -18,14 +18,6 @@ none : (z : ℤ) → ltZ z (pos 0) ≡ true → 0 ≡ unitsOf z
 unfolding unitsOf
 none (pos n) e = let h : n < 0 = ltb-true n 0 e in absurd (omega arith)
 none (negsuc n) e = refl
-
-sign : (z : ℤ) → ltZ z (pos 0) ≡ false → T (nonNeg z)
-sign (pos n) e = tt
-sign (negsuc n) e = subst (λ (b : Bool). T b) e tt
-
-fit : (z : ℤ) → mag z < 2 ^ 31 → T (nonNeg z) → Fits w32 (natAbs z)
-fit (pos n) h t = record { fits = omega arith }
-fit (negsuc n) h t = absurd t
 
 some : (z : ℤ) → T (nonNeg z) → natAbs z / 1000000 ≡ unitsOf z
 unfolding unitsOf

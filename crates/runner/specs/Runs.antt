@@ -1,0 +1,64 @@
+-- Document 01, "The recipe": "the input count 1..4, steps, one closing step, nothing more". What a list of words replies to components.
+use Prim.Native.Nat.{ℕ, zero, suc, pred, _+_}
+use mathlib.Core.Bool.{cond}
+use mathlib.Core.List.{List, [], _∷_}
+use lib.IntN.{ℤ}
+use lib.Dec.{ltb, leb, eqb}
+use lib.ListN.{length, drop}
+use Rattle.fixed.specs.Values.{value, places, given, limitStep, rowStep, tintStep}
+use Rattle.cie.specs.Answers.{Reply, refusal}
+use Rattle.cie.specs.Closings.{closed}
+use Rattle.cie.specs.declared.Closing.{Closing}
+use Rattle.runner.specs.Steps.{smallOf, fills, stepOf}
+use Rattle.runner.specs.declared.Step.{Step}
+use Rattle.runner.specs.declared.Step.the-variants.{Limit, Row, Tint, Close}
+use Rattle.runner.specs.declared.Read.{Read}
+use Rattle.runner.specs.declared.Read.the-variants.{At, Nothing}
+
+-- what one step comes to: the reply, or the values after it
+pub data Turn : Type 0 where
+  done : Reply → Turn
+  more : List ℤ → Turn
+
+-- at a closing step of `size` words: 11 where anything follows it, then 9 where not n components but c were given, then the answer
+unfoldable pub ended : List ℤ → ℕ → ℕ → Closing → ℕ → List ℤ → Reply
+ended l n c k size v = cond (eqb size (length l)) (cond (eqb c n) (closed k v) (refusal 9 0)) (refusal 11 0)
+
+-- the values after a step that does not close, whose words stand at the front of l
+abbrev pub stepped : List ℤ → List ℤ → Step → List ℤ
+stepped l v (Limit k) = limitStep k (value l 2) (value l 3) v
+stepped l v (Row m h) = rowStep m h (drop 3 l) v
+stepped l v (Tint e m) = tintStep e m (drop 3 l) (drop (3 + m) l) v
+stepped l v (Close k) = v
+
+-- one step, whose words stand at the front of l
+abbrev pub acted : List ℤ → ℕ → ℕ → List ℤ → ℕ → Step → Turn
+acted l n c v size (Limit k) = more (stepped l v (Limit k))
+acted l n c v size (Row m h) = more (stepped l v (Row m h))
+acted l n c v size (Tint e m) = more (stepped l v (Tint e m))
+acted l n c v size (Close k) = done (ended l n c k size v)
+
+-- the steps after k words that are passed over; 11 where none is read
+unfoldable pub goes : ℕ → ℕ → List ℤ → ℕ → List ℤ → Reply
+goes n c [] k v = refusal 11 0
+goes n c (w ∷ ws) (suc k) v = goes n c ws k v
+goes n c (w ∷ ws) zero v =
+    elim (stepOf (w ∷ ws)) [
+      | At s size ↦ elim (acted (w ∷ ws) n c v size s) [ done r ↦ r | more u ↦ goes n c ws (pred size) u ]
+      | Nothing ↦ refusal 11 0
+    ]
+
+-- the steps that stand in l, from values v on
+abbrev pub runs : ℕ → ℕ → List ℤ → List ℤ → Reply
+runs n c l v = goes n c l 0 v
+
+-- the words of the longest recipe
+abbrev pub longest : ℕ
+longest = 1045
+
+-- the input count, then the steps
+abbrev pub counted : ℕ → List ℤ → List ℤ → Reply
+counted n ws cs = cond (fills n) (runs n (length cs) (drop 1 ws) (given places cs)) (refusal 11 0)
+
+unfoldable pub ran : List ℤ → List ℤ → Reply
+ran ws cs = cond (ltb longest (length ws)) (refusal 11 0) (counted (smallOf (value ws 0)) ws cs)

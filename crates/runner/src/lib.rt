@@ -1,0 +1,20 @@
+// Running a recipe: from its words and a colour's components alone.
+use cie::Closing;
+
+// A step of a recipe, with its small numbers; its other numbers are read off its words.
+pub enum Step {
+    // Limit value k.
+    Limit(u32),
+    // Pick a row of m entries, of rows 0..h.
+    Row(u32, u32),
+    // The tint to the exponent e, and m components of the alternate space.
+    Tint(u32, u32),
+    // The closing step.
+    Close(Closing),
+}
+
+// What is read off the front of a list of words: a step and how many words it takes, or none.
+pub enum Read {
+    At(Step, usize),
+    Nothing,
+}
