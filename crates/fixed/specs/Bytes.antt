@@ -6,6 +6,10 @@ use lib.IntN.{ℤ}
 use mir.Syntax.{w32}
 use mir.Val.{toZ, ofZ}
 
+-- the most blocks of a page
+abbrev pub blocks : ℕ
+blocks = 64
+
 -- the bytes from block n of a page on: its byte 0 is the block's byte 0
 abbrev pub blockAt : List ℕ → ℕ → List ℕ
 blockAt page n = drop (512 * n) page

@@ -25,3 +25,6 @@ pub use rounding::tint_value;
 
 // How many values a colour's steps act on.
 pub const VALUES: usize = 4;
+
+// The most blocks of a page.
+pub const BLOCKS: u32 = 64;
