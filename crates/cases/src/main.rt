@@ -1,0 +1,28 @@
+// Worked cases, run: each line of standard input is a label and a case, and the same label is written with what the library replies.
+//
+//     LABEL: OPERATION NUMBERS [xBYTES]
+//
+// The numbers are decimal; the bytes are two hexadecimal digits each, or a full stop for a zero byte. The reference implementation writes the input and
+// what is expected of each line.
+mod input;
+mod numbers;
+mod output;
+mod run;
+mod steps;
+
+// A program ends: so many lines are read at the most.
+const LINES: usize = 100000;
+
+fn main() {
+    let mut text = io::large_buffer();
+    let mut room = io::large_buffer();
+    let mut k: usize = 0;
+    while k < LINES {
+        let n = input::line_in(&mut text);
+        if n == 0 {
+            return;
+        }
+        run::line(&text[..n], &mut room);
+        k += 1;
+    }
+}

@@ -1,0 +1,95 @@
+// Numbers, floats and answers, written to standard output.
+use cie::Answer;
+use cie::Xyz;
+use fixed::of_signed;
+use libc::STDOUT_FILENO;
+
+// Writes text.
+pub fn say(s: &[u8]) {
+    io::write_all(STDOUT_FILENO, s);
+}
+
+// Writes a whole number in decimal.
+pub fn say_number(v: i32) {
+    let bits = of_signed(v) as u64;
+    if bits < 2147483648 {
+        io::print_decimal(STDOUT_FILENO, bits);
+        return;
+    }
+    say(b"-");
+    io::print_decimal(STDOUT_FILENO, 4294967296 - bits);
+}
+
+// Writes a number that is not negative, in decimal.
+pub fn say_size(n: u32) {
+    io::print_decimal(STDOUT_FILENO, n as u64);
+}
+
+// Writes bytes, each as its two hexadecimal digits.
+pub fn say_bytes(s: &[u8]) {
+    let mut i: usize = 0;
+    while i < s.len() {
+        io::print_hex(STDOUT_FILENO, s[i] as u64, 2);
+        i += 1;
+    }
+}
+
+// The bits of a float; those of a NaN are not told apart.
+fn bits_of(x: f64) -> u64 {
+    if x == x {
+        return f64::to_bits(x);
+    }
+    9221120237041090560
+}
+
+// Writes a float as its sixteen hexadecimal digits.
+pub fn say_float(x: f64) {
+    io::print_hex(STDOUT_FILENO, bits_of(x), 16);
+}
+
+// Writes X, Y and Z.
+pub fn say_xyz(p: Xyz) {
+    say(b"XYZ ");
+    say_float(p.x);
+    say(b" ");
+    say_float(p.y);
+    say(b" ");
+    say_float(p.z);
+}
+
+// Writes an answer.
+pub fn say_answer(a: Answer) {
+    match a {
+        Answer::Gray(g) => {
+            say(b"Gray ");
+            say_float(g);
+        }
+        Answer::Rgb(r, g, b) => {
+            say(b"RGB ");
+            say_float(r);
+            say(b" ");
+            say_float(g);
+            say(b" ");
+            say_float(b);
+        }
+        Answer::Cmyk(c, m, y, k) => {
+            say(b"CMYK ");
+            say_float(c);
+            say(b" ");
+            say_float(m);
+            say(b" ");
+            say_float(y);
+            say(b" ");
+            say_float(k);
+        }
+        Answer::Xyz(p) => {
+            say_xyz(p);
+        }
+        Answer::Refused { number, block } => {
+            say(b"refused ");
+            io::print_decimal(STDOUT_FILENO, number as u64);
+            say(b" block ");
+            io::print_decimal(STDOUT_FILENO, block as u64);
+        }
+    }
+}

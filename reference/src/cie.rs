@@ -1,0 +1,240 @@
+//! The CIE-based colour steps, each float operation once and in the paper's order.
+
+use crate::numbers::float_of;
+
+/// What a colour comes back as: one of four answers with its floats, or a refusal.
+/// Two answers are the same when every float has the same bits (so 0 and -0 differ).
+#[derive(Clone, Copy, Debug)]
+pub enum Answer {
+    /// One DeviceGray component.
+    Gray(f64),
+    /// Three DeviceRGB components: red, green, blue.
+    Rgb([f64; 3]),
+    /// Four DeviceCMYK components: cyan, magenta, yellow, black.
+    Cmyk([f64; 4]),
+    /// The CIE tristimulus values X, Y, Z.
+    Xyz([f64; 3]),
+    /// A refusal with its number in the paper's table and the block it was found in (0 where none is meant).
+    Refused {
+        /// The refusal's number, 1 to 11.
+        number: u32,
+        /// The number of the block at fault, or 0.
+        block: u32,
+    },
+}
+
+/// Whether two runs of floats have the same bits throughout.
+fn same<const N: usize>(a: &[f64; N], b: &[f64; N]) -> bool {
+    a.iter().zip(b).all(|(x, y)| x.to_bits() == y.to_bits())
+}
+
+impl PartialEq for Answer {
+    fn eq(&self, other: &Self) -> bool {
+        match (self, other) {
+            (Answer::Gray(a), Answer::Gray(b)) => a.to_bits() == b.to_bits(),
+            (Answer::Rgb(a), Answer::Rgb(b)) | (Answer::Xyz(a), Answer::Xyz(b)) => same(a, b),
+            (Answer::Cmyk(a), Answer::Cmyk(b)) => same(a, b),
+            (
+                Answer::Refused { number, block },
+                Answer::Refused {
+                    number: other_number,
+                    block: other_block,
+                },
+            ) => number == other_number && block == other_block,
+            _ => false,
+        }
+    }
+}
+
+impl Eq for Answer {}
+
+/// Decode: A to gamma 1 is A, and each further unit multiplies the product so far by A.
+/// The gamma is given in whole units; 0 counts as 1.
+#[inline]
+pub fn decode(a: f64, units: u8) -> f64 {
+    let mut product = a;
+    for _ in 1..units {
+        product *= a;
+    }
+    product
+}
+
+/// CalGray's X, Y, Z for a component as it stands, with the white point's X and Z and the gamma in whole units.
+#[inline]
+pub fn cal_gray(xw: i32, zw: i32, units: u8, v: i32) -> [f64; 3] {
+    let a = decode(float_of(v), units);
+    [float_of(xw) * a, a, float_of(zw) * a]
+}
+
+/// CalRGB's X, Y, Z for three components as they stand, with the three gammas in whole units
+/// and the matrix in the record's order: XA YA ZA, XB YB ZB, XC YC ZC.
+#[inline]
+pub fn cal_rgb(units: [u8; 3], matrix: [i32; 9], abc: [i32; 3]) -> [f64; 3] {
+    let a = decode(float_of(abc[0]), units[0]);
+    let b = decode(float_of(abc[1]), units[1]);
+    let c = decode(float_of(abc[2]), units[2]);
+    let [xa, ya, za, xb, yb, zb, xc, yc, zc] = matrix.map(float_of);
+    [
+        ((xa * a) + (xb * b)) + (xc * c),
+        ((ya * a) + (yb * b)) + (yc * c),
+        ((za * a) + (zb * b)) + (zc * c),
+    ]
+}
+
+/// The cube of a float: first its square, then that times the float.
+#[inline]
+fn cube(x: f64) -> f64 {
+    (x * x) * x
+}
+
+/// Lab's X, Y, Z for L*, a*, b* as they stand, with the white point's X and Z.
+/// Each of the three branches is decided on its own whole number.
+#[inline]
+pub fn lab(xw: i32, zw: i32, l: i32, a: i32, b: i32) -> [f64; 3] {
+    let l = i64::from(l);
+    let p = 125 * (l + 16_000_000) + 29 * i64::from(a);
+    let n = 50 * (l + 16_000_000) - 29 * i64::from(b);
+    // Every whole number here is below 2^53 in size, so each "as f64" is exact.
+    let first = if p >= 3_000_000_000 {
+        cube(p as f64 / 14_500_000_000.0)
+    } else {
+        (108 * (p - 2_000_000_000)) as f64 / 12_194_500_000_000.0
+    };
+    let second = if l >= 8_000_000 {
+        cube((l + 16_000_000) as f64 / 116_000_000.0)
+    } else {
+        (108 * l) as f64 / 97_556_000_000.0
+    };
+    let third = if n >= 1_200_000_000 {
+        cube(n as f64 / 5_800_000_000.0)
+    } else {
+        (108 * (n - 800_000_000)) as f64 / 4_877_800_000_000.0
+    };
+    [float_of(xw) * first, second, float_of(zw) * third]
+}
+
+#[cfg(test)]
+mod tests {
+    use super::*;
+
+    const XW: i32 = 950_500;
+    const ZW: i32 = 1_089_000;
+
+    fn bits(v: [f64; 3]) -> [u64; 3] {
+        v.map(f64::to_bits)
+    }
+
+    #[test]
+    fn answers_compare_by_bits() {
+        assert_ne!(Answer::Gray(0.0), Answer::Gray(-0.0));
+        assert_eq!(Answer::Gray(0.5), Answer::Gray(0.5));
+        assert_eq!(Answer::Gray(f64::NAN), Answer::Gray(f64::NAN));
+        assert_ne!(Answer::Rgb([0.0; 3]), Answer::Xyz([0.0; 3]));
+        assert_ne!(Answer::Cmyk([0.0; 4]), Answer::Cmyk([0.0, 0.0, 0.0, -0.0]));
+        let refused = Answer::Refused {
+            number: 2,
+            block: 1,
+        };
+        assert_eq!(refused, refused);
+        assert_ne!(
+            refused,
+            Answer::Refused {
+                number: 2,
+                block: 0
+            }
+        );
+    }
+
+    #[test]
+    fn decode_multiplies_the_product_so_far() {
+        let a = float_of(700_001);
+        assert_eq!(decode(a, 1).to_bits(), a.to_bits());
+        assert_eq!(decode(a, 2).to_bits(), (a * a).to_bits());
+        assert_eq!(decode(a, 3).to_bits(), ((a * a) * a).to_bits());
+        assert_eq!(decode(a, 4).to_bits(), (((a * a) * a) * a).to_bits());
+    }
+
+    #[test]
+    fn cal_gray_white_and_black() {
+        for units in 1..=4 {
+            assert_eq!(
+                bits(cal_gray(XW, ZW, units, 1_000_000)),
+                bits([0.9505, 1.0, 1.089])
+            );
+            assert_eq!(bits(cal_gray(XW, ZW, units, 0)), bits([0.0; 3]));
+        }
+    }
+
+    #[test]
+    fn the_first_three_matrix_numbers_belong_to_a() {
+        let m = [1, 2, 3, 4, 5, 6, 7, 8, 9].map(|v| v * 100_000);
+        let one = 1_000_000;
+        assert_eq!(bits(cal_rgb([1; 3], m, [one, 0, 0])), bits([0.1, 0.2, 0.3]));
+        assert_eq!(bits(cal_rgb([1; 3], m, [0, one, 0])), bits([0.4, 0.5, 0.6]));
+        assert_eq!(bits(cal_rgb([1; 3], m, [0, 0, one])), bits([0.7, 0.8, 0.9]));
+        assert_eq!(
+            bits(cal_rgb([1; 3], [-one; 9], [0; 3])),
+            bits([-0.0, -0.0, -0.0])
+        );
+    }
+
+    #[test]
+    fn lab_white_and_black() {
+        assert_eq!(
+            bits(lab(XW, ZW, 100_000_000, 0, 0)),
+            bits([0.9505, 1.0, 1.089])
+        );
+        assert_eq!(bits(lab(XW, ZW, 0, 0, 0)), bits([0.0; 3]));
+    }
+
+    #[test]
+    fn lab_near_the_seam() {
+        // L* 8 with a = b = 0 is cubed in all three.
+        let x = 24_000_000.0 / 116_000_000.0;
+        let g = (x * x) * x;
+        let px = 3_000_000_000.0 / 14_500_000_000.0;
+        let nx = 1_200_000_000.0 / 5_800_000_000.0;
+        assert_eq!(
+            bits(lab(XW, ZW, 8_000_000, 0, 0)),
+            bits([0.9505 * ((px * px) * px), g, 1.089 * ((nx * nx) * nx)])
+        );
+        // 7.999999 is cubed in none.
+        let l = 7_999_999.0;
+        assert_eq!(
+            bits(lab(XW, ZW, 7_999_999, 0, 0)),
+            bits([
+                0.9505 * ((108.0 * 125.0 * l) / 12_194_500_000_000.0),
+                (108.0 * l) / 97_556_000_000.0,
+                1.089 * ((108.0 * 50.0 * l) / 4_877_800_000_000.0)
+            ])
+        );
+        // At L* 8, a* -1 only the first is not cubed.
+        // There 108(p - 2000000000) is 108 * 971000000 = 104868000000.
+        assert_eq!(
+            bits(lab(XW, ZW, 8_000_000, -1_000_000, 0)),
+            bits([
+                0.9505 * (104_868_000_000.0 / 12_194_500_000_000.0),
+                g,
+                1.089 * ((nx * nx) * nx)
+            ])
+        );
+    }
+
+    #[test]
+    fn lab_whole_numbers_are_exact_at_the_extremes() {
+        for l in [i32::MIN, i32::MAX] {
+            for a in [i32::MIN, i32::MAX] {
+                for b in [i32::MIN, i32::MAX] {
+                    let p = 125 * (i128::from(l) + 16_000_000) + 29 * i128::from(a);
+                    let n = 50 * (i128::from(l) + 16_000_000) - 29 * i128::from(b);
+                    for whole in [108 * (p - 2_000_000_000), 108 * (n - 800_000_000), p, n] {
+                        assert!(whole.abs() < 1 << 53);
+                    }
+                    assert!(lab(i32::MAX, i32::MIN, l, a, b)
+                        .iter()
+                        .all(|v| v.is_finite()));
+                }
+            }
+        }
+    }
+}

@@ -1,0 +1,92 @@
+//! Records and pages that several tests use.
+#![allow(dead_code)]
+
+use reference::block::{write_block, Body, Record, BLOCK, BODY};
+
+/// The white point of the paper's examples.
+pub const WHITE: [i32; 3] = [950_500, 1_000_000, 1_089_000];
+
+/// A record without name or palette bytes.
+pub fn record(number: u16, body: Body) -> Record {
+    Record {
+        number,
+        body,
+        bytes: [0; BODY],
+    }
+}
+
+/// The paper's CalGray: white 0.9505 1 1.089, black 0, and this gamma in millionths.
+pub fn cal_gray(gamma: i32) -> Body {
+    Body::CalGray {
+        white: WHITE,
+        black: [0; 3],
+        gamma,
+    }
+}
+
+/// A CalRGB with these gammas and nine different matrix numbers.
+pub fn cal_rgb(gammas: [i32; 3]) -> Body {
+    Body::CalRgb {
+        white: WHITE,
+        black: [0; 3],
+        gammas,
+        matrix: [11, 12, 13, 21, 22, 23, 31, 32, 33],
+    }
+}
+
+/// A Lab with this range.
+pub fn lab(range: [i32; 4]) -> Body {
+    Body::Lab {
+        white: WHITE,
+        black: [0; 3],
+        range,
+    }
+}
+
+/// A Lab with the clause's own range, -100..100.
+pub fn usual_lab() -> Body {
+    lab([-100_000_000, 100_000_000, -100_000_000, 100_000_000])
+}
+
+/// A Separation named "Gold".
+pub fn separation(number: u16, alternate: u16, exponent: u8, c0: [i32; 4], c1: [i32; 4]) -> Record {
+    let mut made = record(
+        number,
+        Body::Separation {
+            alternate,
+            exponent,
+            name_length: 4,
+            c0,
+            c1,
+        },
+    );
+    made.bytes[..4].copy_from_slice(b"Gold");
+    made
+}
+
+/// A palette block with these first bytes.
+pub fn palette(number: u16, bytes: &[u8]) -> Record {
+    let mut made = record(number, Body::Palette);
+    made.bytes[..bytes.len()].copy_from_slice(bytes);
+    made
+}
+
+/// The block of a record that is accepted by itself.
+pub fn block(record: &Record) -> [u8; BLOCK] {
+    let mut block = [0xaa; BLOCK];
+    write_block(record, &mut block).unwrap();
+    block
+}
+
+/// A page of records that are accepted by themselves.
+pub fn page(records: &[Record]) -> Vec<u8> {
+    records.iter().flat_map(block).collect()
+}
+
+/// A page of blocks that are changed by hand and then get the right check again.
+pub fn page_with(records: &[Record], number: usize, change: impl Fn(&mut [u8])) -> Vec<u8> {
+    let mut page = page(records);
+    change(&mut page[number * BLOCK..][..BLOCK]);
+    reference::generate::repair(&mut page, number);
+    page
+}
