@@ -1,0 +1,5 @@
+-- Laws that several proofs cite, here and in the crates above.
+pub mod Sums
+pub mod Runs
+pub mod Ranges
+pub mod Shapes

@@ -1,0 +1,122 @@
+-- Refusal 3 of a block and of the record read of it are one: the name rule finds the same in both, and so do the tests on kind, own number and zeros.
+use mathlib.Core.Path.{_≡_, refl, sym, ap, _∙_}
+use mathlib.Core.List.{List, _++_}
+use mathlib.Core.Bool.{Bool, true, false, _&&_, cond, not}
+use Prim.Native.Nat.{ℕ, zero, suc, _+_, _-_, _<_, _≤_}
+use native.Mathlib.Nat.{add-zero}
+use native.Mathlib.Omega.{arith}
+use borrow.Author.Tests.{leb-true}
+use lib.ListN.{length, getD, drop, replicate, length-replicate, getD-replicate, List·getD-append}
+use lib.Seq.{getD-append-add, getD-drop}
+use lib.Dec.{eqb, leb, ltb}
+use Rattle.fixed.specs.Bytes.{byteAt}
+use Rattle.fixed.specs.Loops.{allFrom, zeroBetween}
+use Rattle.fixed.proofs.Decide.{and-left}
+use Rattle.layout.specs.Field.{padded}
+use Rattle.layout.proofs.Held.{length-padded, getD-padded, all-zero}
+use Rattle.record.specs.Reading.{kindAt, ownAt, bodyBy, runAt, bytesBy, recordAt}
+use Rattle.record.specs.Rules.{blocks, noneZero, nameFits, known, nameShown, formed, used, named, shaped}
+
+-- a scan finds the same at two places where the tests agree one by one
+all-same : (f g : ℕ → Bool) (j k n : ℕ) → ((i : ℕ) → i < n → f (j + i) ≡ g (k + i)) → allFrom f j n ≡ allFrom g k n
+unfolding allFrom
+all-same f g j k zero h = refl
+all-same f g j k (suc n) h = λ i. head i && all-same f g (suc j) (suc k) n tail i
+  where
+    head : f j ≡ g k
+    head = let p : j + 0 ≡ j = add-zero j in let q : k + 0 ≡ k = add-zero k in rw (p, q) at (h 0 (omega arith))
+
+    tail : (i : ℕ) → i < n → f (suc j + i) ≡ g (suc k + i)
+    tail i l =
+        let p : j + suc i ≡ suc j + i = omega arith in
+        let q : k + suc i ≡ suc k + i = omega arith in
+        rw (p, q) at (h (suc i) (omega arith))
+
+and-same : (a : Bool) {x y : Bool} → (a ≡ true → x ≡ y) → (a && x) ≡ (a && y)
+and-same true h = h refl
+and-same false h = refl
+
+-- the name rule sees the same name at two places of two lists where the 128 bytes there agree
+pub name-same : (s t : List ℕ) (j k n : ℕ) → ((i : ℕ) → i < 128 → byteAt s (j + i) ≡ byteAt t (k + i)) → nameFits s j n ≡ nameFits t k n
+unfolding nameFits noneZero zeroBetween
+name-same s t j k n h =
+    and-same (leb 1 n) (λ _. and-same (leb n 127) (λ m.
+    let few : n ≤ 127 = leb-true n 127 m in
+    λ i. name few i && rest few i))
+  where
+    name : n ≤ 127 → allFrom (λ i. not (eqb (byteAt s i) 0)) j (j + n - j) ≡ allFrom (λ i. not (eqb (byteAt t i) 0)) k (k + n - k)
+    name few =
+        let p : j + n - j ≡ n = omega arith in
+        let q : k + n - k ≡ n = omega arith in
+        rw (p, q) (all-same _ _ j k n (λ i l. ap (λ (x : ℕ). not (eqb x 0)) (h i (omega arith))))
+
+    zeros : (i : ℕ) → i < 128 - n → eqb (byteAt s (j + n + i)) 0 ≡ eqb (byteAt t (k + n + i)) 0
+    zeros i l =
+        let p : j + (n + i) ≡ j + n + i = omega arith in
+        let q : k + (n + i) ≡ k + n + i = omega arith in
+        ap (λ (x : ℕ). eqb x 0) (rw (p, q) at (h (n + i) (omega arith)))
+
+    rest : n ≤ 127 → allFrom (λ i. eqb (byteAt s i) 0) (j + n) (j + 128 - (j + n)) ≡ allFrom (λ i. eqb (byteAt t i) 0) (k + n) (k + 128 - (k + n))
+    rest few =
+        let p : j + 128 - (j + n) ≡ 128 - n = omega arith in
+        let q : k + 128 - (k + n) ≡ 128 - n = omega arith in
+        rw (p, q) (all-same _ _ (j + n) (k + n) (128 - n) zeros)
+
+-- ---- a run in its room: the bytes of the block, and zeros past them
+
+module _ (b : List ℕ) (at n : ℕ) where
+  pub run-at : (i : ℕ) → i < n → getD (runAt b at n) i 0 ≡ getD b (at + i) 0
+  run-at i l =
+      let m : i < length (padded n (drop at b)) = rw (length-padded n (drop at b)) l in
+      List·getD-append (padded n (drop at b)) (replicate (504 - n) 0) 0 i m ∙ getD-padded n (drop at b) i l ∙ getD-drop at b i 0
+
+  pub run-past : (i : ℕ) → n ≤ i → i < 504 → getD (runAt b at n) i 0 ≡ 0
+  run-past i l m =
+      let e : length (padded n (drop at b)) + (i - n) ≡ i = omega (arith, length-padded n (drop at b)) in
+      let s : getD (runAt b at n) (length (padded n (drop at b)) + (i - n)) 0 ≡ getD (replicate {A = ℕ} (504 - n) 0) (i - n) 0 =
+      getD-append-add (padded n (drop at b)) (replicate (504 - n) 0) (i - n) 0 in
+      rw e at s ∙ getD-replicate (504 - n) (i - n) 0 0 (omega arith)
+
+  pub run-zeros : zeroBetween (runAt b at n) n 504 ≡ true
+  run-zeros = all-zero (runAt b at n) n 504 run-past
+
+pub no-bytes : zeroBetween (replicate {A = ℕ} 504 0) 0 504 ≡ true
+no-bytes = all-zero (replicate 504 0) 0 504 (λ i l m. getD-replicate 504 i 0 0 m)
+
+-- ---- the record read shows of refusal 3 what the block shows
+
+by-kind : (b : List ℕ) (k : ℕ) → k ≤ 6
+    → cond (eqb k 5) (nameFits b 8 (byteAt b 7)) true ≡ (named (bodyBy k b) (bytesBy k b) && zeroBetween (bytesBy k b) (used (bodyBy k b)) 504)
+unfolding bodyBy bytesBy named
+by-kind b zero p = sym no-bytes
+by-kind b (suc zero) p = sym no-bytes
+by-kind b (suc (suc zero)) p = sym no-bytes
+by-kind b (suc (suc (suc zero))) p = sym no-bytes
+by-kind b (suc (suc (suc (suc zero)))) p = sym no-bytes
+by-kind b (suc (suc (suc (suc (suc zero))))) p =
+    name-same b (runAt b 8 128) 8 0 (byteAt b 7) (λ i l. let e : 0 + i ≡ i = omega arith in rw e (sym (run-at b 8 128 i l)))
+    ∙ sym (rw (run-zeros b 8 128) (and-true _))
+  where
+    and-true : (a : Bool) → (a && true) ≡ a
+    and-true true = refl
+    and-true false = refl
+by-kind b (suc (suc (suc (suc (suc (suc zero)))))) p = sym (run-zeros b 4 504)
+by-kind b (suc (suc (suc (suc (suc (suc (suc k))))))) p = absurd (omega arith)
+
+pub shown-named : (b : List ℕ) → known b ≡ true → nameShown b ≡ (named (recordAt b .body) (recordAt b .bytes) && zeroBetween (recordAt b .bytes) (used (recordAt b .body)) 504)
+unfolding known nameShown recordAt
+shown-named b k = by-kind b (kindAt b) (leb-true _ 6 (and-left _ _ k))
+
+-- formed, with an own number that a page can have, is known and shaped: what is tested on a page is what is tested on a block alone
+pub formed-shaped : (b : List ℕ) → (formed b && ltb (ownAt b) blocks) ≡ (known b && shaped (recordAt b))
+unfolding formed shaped recordAt
+formed-shaped b =
+    moved (known b) (nameShown b) (ltb (ownAt b) blocks)
+    ∙ and-same (known b) (λ k. ap (λ (t : Bool). ltb (ownAt b) blocks && t) (shown-named b k))
+  where
+    moved : (a n o : Bool) → ((a && n) && o) ≡ (a && (o && n))
+    moved true true true = refl
+    moved true true false = refl
+    moved true false true = refl
+    moved true false false = refl
+    moved false n o = refl

@@ -1,0 +1,86 @@
+-- Document 01, "The page": what a block b says, by the byte offsets of the table. Every list of bytes says something; specs/Rules.antt has what is refused.
+use mathlib.Core.List.{List, _++_}
+use mathlib.Core.Bool.{cond}
+use Prim.Native.Nat.{ℕ, _+_, _-_}
+use lib.ListN.{drop, replicate}
+use lib.Dec.{eqb}
+use Rattle.fixed.specs.Bytes.{byteAt, twoAt, numberAt}
+use Rattle.layout.specs.Field.{padded}
+use Rattle.record.specs.declared.types.Triple.{Triple}
+use Rattle.record.specs.declared.types.Ranges.{Ranges}
+use Rattle.record.specs.declared.types.Four.{Four}
+use Rattle.record.specs.declared.types.CalGray.{CalGray as GraySpace}
+use Rattle.record.specs.declared.types.CalRgb.{CalRgb as RgbSpace}
+use Rattle.record.specs.declared.types.Lab.{Lab as LabSpace}
+use Rattle.record.specs.declared.types.Separation.{Separation as Ink}
+use Rattle.record.specs.declared.types.Body.{Body}
+use Rattle.record.specs.declared.types.Body.the-variants.{Free, CalGray, CalRgb, Lab, Indexed, Separation, Palette}
+use Rattle.record.specs.declared.types.Record.{Record}
+
+-- byte 0, and bytes 2-3
+abbrev pub kindAt : List ℕ → ℕ
+kindAt b = byteAt b 0
+
+abbrev pub ownAt : List ℕ → ℕ
+ownAt b = twoAt b 2
+
+-- three numbers and four, from `at` on
+abbrev pub tripleAt : List ℕ → ℕ → Triple
+tripleAt b at = record { x = numberAt b at; y = numberAt b (at + 4); z = numberAt b (at + 8) }
+
+abbrev pub rangesAt : List ℕ → ℕ → Ranges
+rangesAt b at =
+    record { amin = numberAt b at; amax = numberAt b (at + 4); bmin = numberAt b (at + 8); bmax = numberAt b (at + 12) }
+
+abbrev pub fourAt : List ℕ → ℕ → Four
+fourAt b at = record { a = numberAt b at; b = numberAt b (at + 4); c = numberAt b (at + 8); d = numberAt b (at + 12) }
+
+-- white 4, black 16, gamma 28
+abbrev pub grayAt : List ℕ → GraySpace
+grayAt b = record { white = tripleAt b 4; black = tripleAt b 16; gamma = numberAt b 28 }
+
+-- white 4, black 16, three gammas 28, matrix 40: XA YA ZA, XB YB ZB, XC YC ZC
+abbrev pub rgbAt : List ℕ → RgbSpace
+rgbAt b =
+    record {
+      white = tripleAt b 4;
+      black = tripleAt b 16;
+      gammas = tripleAt b 28;
+      a = tripleAt b 40;
+      b = tripleAt b 52;
+      c = tripleAt b 64;
+    }
+
+-- white 4, black 16, range 28
+abbrev pub labAt : List ℕ → LabSpace
+labAt b = record { white = tripleAt b 4; black = tripleAt b 16; range = rangesAt b 28 }
+
+-- alternate 4, exponent 6, name length 7, C0 136, C1 152
+abbrev pub separationAt : List ℕ → Ink
+separationAt b =
+    record { alternate = twoAt b 4; exponent = byteAt b 6; «name_len» = byteAt b 7; c0 = fourAt b 136; c1 = fourAt b 152 }
+
+-- the body of a block of kind k: base 4 and hival 6 of an Indexed one; an unknown kind is read as free
+unfoldable pub bodyBy : ℕ → List ℕ → Body
+bodyBy k b =
+    cond (eqb k 1) (CalGray (grayAt b))
+    (cond (eqb k 2) (CalRgb (rgbAt b))
+    (cond (eqb k 3) (Lab (labAt b))
+    (cond (eqb k 4) (Indexed (twoAt b 4) (twoAt b 6))
+    (cond (eqb k 5) (Separation (separationAt b))
+    (cond (eqb k 6) Palette Free)))))
+
+abbrev pub bodyAt : List ℕ → Body
+bodyAt b = bodyBy (kindAt b) b
+
+-- n bytes from `at` on, with zeros after them: a record's room of 504 bytes
+abbrev pub runAt : List ℕ → ℕ → ℕ → List ℕ
+runAt b at n = padded n (drop at b) ++ replicate (504 - n) 0
+
+-- the room of a block of kind k: name 8, or the palette's 504 bytes
+unfoldable pub bytesBy : ℕ → List ℕ → List ℕ
+bytesBy k b = cond (eqb k 5) (runAt b 8 128) (cond (eqb k 6) (runAt b 4 504) (replicate 504 0))
+
+-- the record that a block holds
+unfoldable pub recordAt : List ℕ → Record
+recordAt b = record { own = ownAt b; body = bodyAt b; bytes = bytesBy (kindAt b) b }

@@ -1,0 +1,141 @@
+-- Document 01, "What comes back": what is refused of a record and of a block, each number in its place.
+use mathlib.Core.List.{List}
+use mathlib.Core.Bool.{Bool, true, _&&_, _||_, cond, not}
+use Prim.Native.Nat.{ℕ, _+_, _-_, _*_, _%_}
+use lib.Dec.{eqb, leb, ltb}
+use lib.IntN.{ℤ, pos, natAbs}
+use lib.Signed.{ltZ, leZ}
+use Rattle.fixed.specs.Bytes.{byteAt}
+use Rattle.fixed.specs.Loops.{allBetween, zeroBetween}
+use Rattle.record.specs.Layout.{namedTo}
+use Rattle.record.specs.Reading.{kindAt, ownAt, bodyAt, recordAt}
+use Rattle.record.specs.declared.types.Triple.{Triple}
+use Rattle.record.specs.declared.types.Ranges.{Ranges}
+use Rattle.record.specs.declared.types.Body.{Body}
+use Rattle.record.specs.declared.types.Body.the-variants.{Free, CalGray, CalRgb, Lab, Indexed, Separation, Palette}
+use Rattle.record.specs.declared.types.Record.{Record}
+
+-- Numbers of the format that may grow: the most blocks of a page, the greatest whole gamma and exponent.
+abbrev pub blocks : ℕ
+blocks = 64
+
+abbrev pub greatest : ℕ
+greatest = 4
+
+-- 1, in millionths
+abbrev pub unit : ℕ
+unit = 1000000
+
+-- ---- 3: unknown kind, wrong own number, a byte not zero that must be; name length not 1..127, or a zero byte in the name
+
+-- none of the bytes from `from` to below `to` is zero
+unfoldable pub noneZero : List ℕ → ℕ → ℕ → Bool
+noneZero s from to = allBetween (λ k. not (eqb (byteAt s k) 0)) from to
+
+-- a name of `count` bytes, in the 128 from `start` on: 1 to 127 bytes, none of them zero, and zeros past them
+unfoldable pub nameFits : List ℕ → ℕ → ℕ → Bool
+nameFits s start count =
+    leb 1 count && (leb count 127 && (noneZero s start (start + count) && zeroBetween s (start + count) (start + 128)))
+
+-- of a block: a known kind, byte 1 zero, and zeros where the body names no byte
+unfoldable pub known : List ℕ → Bool
+known b = leb (kindAt b) 6 && (eqb (byteAt b 1) 0 && zeroBetween b (namedTo (bodyAt b)) 508)
+
+-- the name of a Separation, which stands at byte 8 with its length in byte 7
+unfoldable pub nameShown : List ℕ → Bool
+nameShown b = cond (eqb (kindAt b) 5) (nameFits b 8 (byteAt b 7)) true
+
+-- all of refusal 3 that one block shows, but its own number
+unfoldable pub formed : List ℕ → Bool
+formed b = known b && nameShown b
+
+-- of a record: how many places of its room are used, and the name in it
+abbrev pub used : Body → ℕ
+used Free = 0
+used (CalGray g) = 0
+used (CalRgb g) = 0
+used (Lab g) = 0
+used (Indexed base hival) = 0
+used (Separation p) = 128
+used Palette = 504
+
+unfoldable pub named : Body → List ℕ → Bool
+named Free s = true
+named (CalGray g) s = true
+named (CalRgb g) s = true
+named (Lab g) s = true
+named (Indexed base hival) s = true
+named (Separation p) s = nameFits s 0 (p .«name_len»)
+named Palette s = true
+
+-- an own number that a page can have, a name that fits, and zeros where the room is not used
+unfoldable pub shaped : Record → Bool
+shaped r = ltb (r .own) blocks && (named (r .body) (r .bytes) && zeroBetween (r .bytes) (used (r .body)) 504)
+
+-- ---- 4: a number breaks a clause rule
+
+-- white X and Z above 0, Y exactly 1
+unfoldable pub whitePoint : Triple → Bool
+whitePoint t = ltZ (pos 0) (t .x) && (leZ (pos unit) (t .y) && (leZ (t .y) (pos unit) && ltZ (pos 0) (t .z)))
+
+-- black not below 0
+unfoldable pub blackPoint : Triple → Bool
+blackPoint t = leZ (pos 0) (t .x) && (leZ (pos 0) (t .y) && leZ (pos 0) (t .z))
+
+-- amin <= amax, bmin <= bmax
+unfoldable pub ordered : Ranges → Bool
+ordered q = leZ (q .amin) (q .amax) && leZ (q .bmin) (q .bmax)
+
+-- those, CalGray gamma above 0, and hival 0 to 255
+unfoldable pub lawful : Body → Bool
+lawful Free = true
+lawful (CalGray g) = whitePoint (g .white) && (blackPoint (g .black) && ltZ (pos 0) (g .gamma))
+lawful (CalRgb g) = whitePoint (g .white) && blackPoint (g .black)
+lawful (Lab g) = whitePoint (g .white) && (blackPoint (g .black) && ordered (g .range))
+lawful (Indexed base hival) = leb hival 255
+lawful (Separation p) = true
+lawful Palette = true
+
+-- ---- 5: a gamma or exponent is beyond the house limit
+
+-- a gamma, in millionths: from 1 to the greatest, and whole
+unfoldable pub supportedGamma : ℤ → Bool
+supportedGamma v = leZ (pos unit) v && (leZ v (pos (greatest * unit)) && eqb (natAbs v % unit) 0)
+
+-- an exponent, in units
+unfoldable pub supportedExponent : ℕ → Bool
+supportedExponent e = leb 1 e && leb e greatest
+
+unfoldable pub supported : Body → Bool
+supported Free = true
+supported (CalGray g) = supportedGamma (g .gamma)
+supported (CalRgb g) = supportedGamma (g .gammas .x) && (supportedGamma (g .gammas .y) && supportedGamma (g .gammas .z))
+supported (Lab g) = true
+supported (Indexed base hival) = true
+supported (Separation p) = supportedExponent (p .exponent)
+supported Palette = true
+
+-- ---- 6, of single blocks: a reference that is neither a device code nor 0..63
+
+-- FF01 DeviceGray, FF03 DeviceRGB, FF04 DeviceCMYK
+unfoldable pub device : ℕ → Bool
+device n = eqb n 0xFF01 || (eqb n 0xFF03 || eqb n 0xFF04)
+
+unfoldable pub refers : Body → Bool
+refers Free = true
+refers (CalGray g) = true
+refers (CalRgb g) = true
+refers (Lab g) = true
+refers (Indexed base hival) = device base || ltb base blocks
+refers (Separation p) = device (p .alternate) || ltb (p .alternate) blocks
+refers Palette = true
+
+-- ---- the first of 3, 4, 5, 6 that a record meets, or 0
+
+unfoldable pub faultOf : Record → ℕ
+faultOf r =
+    cond (shaped r) (cond (lawful (r .body)) (cond (supported (r .body)) (cond (refers (r .body)) 0 6) 5) 4) 3
+
+-- and the same of a block: what no record can show, its kind and the bytes that are not named, is looked at first, and it is 3
+unfoldable pub faultAt : List ℕ → ℕ
+faultAt b = cond (known b) (faultOf (recordAt b)) 3

@@ -1,0 +1,169 @@
+// Refusals 4, 5 and 6: the rules on numbers, the house limits, and references; and the first refusal that a record meets.
+ghost use mathlib.Core.Path.{_≡_};
+ghost use mathlib.Core.Bool.{_&&_};
+ghost use lib.IntN.{pos};
+ghost use lib.Signed.{ltZ};
+ghost use Rattle.record.specs.Rules.{whitePoint, blackPoint, ordered, lawful, supportedGamma, supportedExponent, supported, device, refers, faultOf};
+use crate::shape::is_shaped;
+use crate::types::BLOCKS;
+use crate::types::Body;
+use crate::types::CalGray;
+use crate::types::CalRgb;
+use crate::types::Lab;
+use crate::types::Ranges;
+use crate::types::Record;
+use crate::types::Triple;
+
+// The greatest gamma, in millionths, and the greatest exponent.
+const GREATEST_GAMMA: i32 = 4000000;
+
+const GREATEST_EXPONENT: u8 = 4;
+
+fn is_white(t: Triple) -> bool
+    ensures { λ r. ⌜ r ≡ whitePoint t ⌝ }
+{
+    (0 < t.x) & ((1000000 <= t.y) & ((t.y <= 1000000) & (0 < t.z)))
+}
+
+fn is_black(t: Triple) -> bool
+    ensures { λ r. ⌜ r ≡ blackPoint t ⌝ }
+{
+    (0 <= t.x) & ((0 <= t.y) & (0 <= t.z))
+}
+
+fn is_ordered(q: Ranges) -> bool
+    ensures { λ r. ⌜ r ≡ ordered q ⌝ }
+{
+    (q.amin <= q.amax) & (q.bmin <= q.bmax)
+}
+
+fn above_zero(v: i32) -> bool
+    ensures { λ r. ⌜ r ≡ ltZ (pos 0) v ⌝ }
+{
+    0 < v
+}
+
+fn gray_lawful(g: CalGray) -> bool
+    ensures { λ r. ⌜ r ≡ lawful (Body.CalGray g) ⌝ }
+{
+    let white = g.white;
+    let black = g.black;
+    is_white(white) & (is_black(black) & above_zero(g.gamma))
+}
+
+fn rgb_lawful(g: CalRgb) -> bool
+    ensures { λ r. ⌜ r ≡ lawful (Body.CalRgb g) ⌝ }
+{
+    let white = g.white;
+    let black = g.black;
+    is_white(white) & is_black(black)
+}
+
+fn lab_lawful(g: Lab) -> bool
+    ensures { λ r. ⌜ r ≡ lawful (Body.Lab g) ⌝ }
+{
+    let white = g.white;
+    let black = g.black;
+    let range = g.range;
+    is_white(white) & (is_black(black) & is_ordered(range))
+}
+
+// Whether no number of a body breaks a clause rule: else it is refused with 4.
+pub fn is_lawful(y: Body) -> bool
+    ensures { λ r. ⌜ r ≡ lawful y ⌝ }
+{
+    match y {
+        Body::Free => true,
+        Body::CalGray(g) => gray_lawful(g),
+        Body::CalRgb(g) => rgb_lawful(g),
+        Body::Lab(g) => lab_lawful(g),
+        Body::Indexed { base: _, hival } => hival <= 255,
+        Body::Separation(_) => true,
+        Body::Palette => true,
+    }
+}
+
+// Whether a gamma is whole and within the house limit.
+pub fn is_supported_gamma(v: i32) -> bool
+    ensures { λ r. ⌜ r ≡ supportedGamma v ⌝ }
+{
+    if 1000000 <= v {
+        if v <= GREATEST_GAMMA {
+            return (v as u32) % 1000000 == 0;
+        }
+        return false;
+    }
+    false
+}
+
+fn rgb_supported(t: Triple) -> bool
+    ensures { λ r. ⌜ r ≡ (supportedGamma (t .x) && (supportedGamma (t .y) && supportedGamma (t .z))) ⌝ }
+{
+    is_supported_gamma(t.x) & (is_supported_gamma(t.y) & is_supported_gamma(t.z))
+}
+
+fn exponent_supported(e: u8) -> bool
+    ensures { λ r. ⌜ r ≡ supportedExponent e ⌝ }
+{
+    (1 <= e) & (e <= GREATEST_EXPONENT)
+}
+
+// Whether each gamma and exponent of a body is within the house limit: else it is refused with 5.
+pub fn is_supported(y: Body) -> bool
+    ensures { λ r. ⌜ r ≡ supported y ⌝ }
+{
+    match y {
+        Body::Free => true,
+        Body::CalGray(g) => is_supported_gamma(g.gamma),
+        Body::CalRgb(g) => {
+            let gammas = g.gammas;
+            rgb_supported(gammas)
+        }
+        Body::Lab(_) => true,
+        Body::Indexed { base: _, hival: _ } => true,
+        Body::Separation(p) => exponent_supported(p.exponent),
+        Body::Palette => true,
+    }
+}
+
+// Whether a number is a device space's code.
+pub fn is_device(n: u16) -> bool
+    ensures { λ r. ⌜ r ≡ device n ⌝ }
+{
+    (n == 0xFF01) | ((n == 0xFF03) | (n == 0xFF04))
+}
+
+// Whether the reference of a body, if it has one, is a device code or a number that a block can have: else it is refused with 6.
+pub fn is_referring(y: Body) -> bool
+    ensures { λ r. ⌜ r ≡ refers y ⌝ }
+{
+    match y {
+        Body::Free => true,
+        Body::CalGray(_) => true,
+        Body::CalRgb(_) => true,
+        Body::Lab(_) => true,
+        Body::Indexed { base, hival: _ } => is_device(base) | (base < BLOCKS),
+        Body::Separation(p) => is_device(p.alternate) | (p.alternate < BLOCKS),
+        Body::Palette => true,
+    }
+}
+
+// The first refusal of 3, 4, 5, 6 that a record meets, or 0.
+pub fn fault(r: Record) -> u32
+    ensures { λ n. ⌜ n ≡ faultOf r ⌝ }
+{
+    let y = r.body;
+    if !is_shaped(r) {
+        return 3;
+    }
+    if !is_lawful(y) {
+        return 4;
+    }
+    if !is_supported(y) {
+        return 5;
+    }
+    if !is_referring(y) {
+        return 6;
+    }
+    0
+}
