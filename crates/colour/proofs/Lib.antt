@@ -1,0 +1,3 @@
+-- Laws that the proofs cite: the steps on values, and what the values reply level by level.
+pub mod Steps
+pub mod Replies

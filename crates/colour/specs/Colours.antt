@@ -1,0 +1,38 @@
+-- Document 01, "Colour steps": what a colour of a space is. Each component is limited first; an Indexed or a Separation makes a colour of the space within.
+use Prim.Native.Nat.{ℕ, zero, suc}
+use mathlib.Core.Bool.{cond}
+use mathlib.Core.List.{List}
+use lib.IntN.{ℤ}
+use lib.Dec.{eqb}
+use lib.ListN.{length}
+use Rattle.fixed.specs.Values.{places, given, limitStep, rowStep, tintStep}
+use Rattle.cie.specs.Answers.{Reply, refusal}
+use Rattle.cie.specs.Closings.{closed}
+use Rattle.space.specs.Spaces.{Space, none, gray, rgb, cmyk, calGray, calRgb, lab, separation, indexed, countOf, lowOf, highOf, closingOf}
+
+-- the first m values, each limited to its range
+unfoldable pub limitedTo : Space → ℕ → List ℤ → List ℤ
+limitedTo s zero v = v
+limitedTo s (suc m) v = limitStep m (lowOf s m) (highOf s m) (limitedTo s m v)
+
+-- a plain space: its components limited, then its closing step
+abbrev pub settled : Space → List ℤ → Reply
+settled s v = closed (closingOf s) (limitedTo s (countOf s) v)
+
+-- what the values reply in a space
+unfoldable pub valued : Space → List ℤ → Reply
+valued none v = settled none v
+valued gray v = settled gray v
+valued rgb v = settled rgb v
+valued cmyk v = settled cmyk v
+valued (calGray k) v = settled (calGray k) v
+valued (calRgb k) v = settled (calRgb k) v
+valued (lab k al ah bl bh) v = settled (lab k al ah bl bh) v
+valued (separation e c0 c1 s) v = valued s (tintStep e (countOf s) c0 c1 v)
+valued (indexed h t s) v = valued s (rowStep (countOf s) h t v)
+
+-- 8 where there is no space, then 9 for a wrong count of components, then the answer
+unfoldable pub answered : Space → List ℤ → Reply
+answered s cs =
+    cond (eqb (countOf s) 0) (refusal 8 0)
+    (cond (eqb (length cs) (countOf s)) (valued s (given places cs)) (refusal 9 0))

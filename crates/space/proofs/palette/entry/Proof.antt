@@ -1,0 +1,40 @@
+-- An entry is its palette byte over the range of its component.
+use mathlib.Core.Path.{_∙_}
+use Rattle.space.specs.Pages.{entryOf}
+use Rattle.fixed.proofs.Signs.{heard}
+use borrow.Author.Needs.{needs}
+use Rattle.space.proofs.palette.entry.Statement.{statement}
+use Rattle.space.proofs.palette.entry.Tie as tie
+
+rem-k : tie.Need-rem-k
+rem-k c = search needs
+
+palette-byte-requires : tie.Need-palette-byte-requires
+palette-byte-requires c κs = search needs
+
+low-requires : tie.Need-low-requires
+low-requires c κs = search needs
+
+high-requires : tie.Need-high-requires
+high-requires c κs = search needs
+
+palette-value-requires : tie.Need-palette-value-requires
+palette-value-requires c κs = search needs
+
+returns : tie.Need-returns
+unfolding entryOf
+returns c =
+    heard _ (c .palette-value .ok)
+    (c .palette-value .ensures ∙
+    simp (heard _ (c .before .before .low .ok) (c .before .before .low .ensures), heard _ (c .before .high .ok) (c .before .high .ensures), c .before .before .before .palette-byte .ensures .0, c .before .before .before .before .before .pre .3))
+
+pub entry-spec : {M : Type 1} → statement M
+entry-spec =
+    tie.close
+    (tie.spec
+    rem-k
+    palette-byte-requires
+    low-requires
+    high-requires
+    palette-value-requires
+    returns)

@@ -1,0 +1,22 @@
+-- Each number of the record is the one at its place.
+use Rattle.fixed.proofs.Signs.{heard}
+use borrow.Author.Needs.{needs}
+use Rattle.space.proofs.ranges.lab_numbers.Statement.{statement}
+use Rattle.space.proofs.ranges.lab_numbers.Tie as tie
+
+number-requires : tie.Need-number-requires
+number-requires c κs = search needs
+
+number-requires-2 : tie.Need-number-requires-2
+number-requires-2 c κs = search needs
+
+returns : tie.Need-returns
+returns c =
+    λ i.
+    record {
+      xw = heard _ (c .before .number .ok) (c .before .number .ensures) i;
+      zw = heard _ (c .number2 .ok) (c .number2 .ensures) i;
+    }
+
+pub lab-numbers-spec : {M : Type 1} → statement M
+lab-numbers-spec = tie.close (tie.spec number-requires number-requires-2 returns)

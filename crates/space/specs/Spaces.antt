@@ -1,0 +1,87 @@
+-- A colour space: its components, their ranges, its closing step, and how many words its recipe has.
+use Prim.Native.Nat.{ℕ, _+_, _*_}
+use mathlib.Core.Bool.{cond}
+use mathlib.Core.List.{List}
+use lib.IntN.{ℤ, pos}
+use lib.Dec.{eqb}
+use Rattle.cie.specs.declared.GrayClosing.{GrayClosing}
+use Rattle.cie.specs.declared.RgbClosing.{RgbClosing}
+use Rattle.cie.specs.declared.LabClosing.{LabClosing}
+use Rattle.cie.specs.declared.Closing.{Closing}
+use Rattle.cie.specs.declared.Closing.the-variants.{Nothing, Gray, Rgb, Cmyk, CalGray, CalRgb, Lab}
+
+-- `none` is what a number that is no space's stands for. lab: amin amax bmin bmax. separation: the exponent, C0 and C1 of the alternate's count, and
+-- the alternate. indexed: hival, the palette's values row by row, and the base.
+pub data Space : Type 0 where
+  none : Space
+  gray : Space
+  rgb : Space
+  cmyk : Space
+  calGray : GrayClosing → Space
+  calRgb : RgbClosing → Space
+  lab : LabClosing → ℤ → ℤ → ℤ → ℤ → Space
+  separation : ℕ → List ℤ → List ℤ → Space → Space
+  indexed : ℕ → List ℤ → Space → Space
+
+-- component counts
+abbrev pub countOf : Space → ℕ
+countOf none = 0
+countOf gray = 1
+countOf rgb = 3
+countOf cmyk = 4
+countOf (calGray k) = 1
+countOf (calRgb k) = 3
+countOf (lab k al ah bl bh) = 3
+countOf (separation e c0 c1 s) = 1
+countOf (indexed h t s) = 1
+
+-- the range of component k: Lab L* 0..100, a* and b* by Range, all others 0..1
+abbrev pub pick3 : ℤ → ℤ → ℤ → ℕ → ℤ
+pick3 x y z k = cond (eqb k 0) x (cond (eqb k 1) y z)
+
+abbrev pub lowOf : Space → ℕ → ℤ
+lowOf none k = pos 0
+lowOf gray k = pos 0
+lowOf rgb k = pos 0
+lowOf cmyk k = pos 0
+lowOf (calGray g) k = pos 0
+lowOf (calRgb g) k = pos 0
+lowOf (lab g al ah bl bh) k = pick3 (pos 0) al bl k
+lowOf (separation e c0 c1 s) k = pos 0
+lowOf (indexed h t s) k = pos 0
+
+abbrev pub highOf : Space → ℕ → ℤ
+highOf none k = pos 1000000
+highOf gray k = pos 1000000
+highOf rgb k = pos 1000000
+highOf cmyk k = pos 1000000
+highOf (calGray g) k = pos 1000000
+highOf (calRgb g) k = pos 1000000
+highOf (lab g al ah bl bh) k = pick3 (pos 100000000) ah bh k
+highOf (separation e c0 c1 s) k = pos 1000000
+highOf (indexed h t s) k = pos 1000000
+
+-- the closing step of a plain space
+abbrev pub closingOf : Space → Closing
+closingOf none = Nothing
+closingOf gray = Gray
+closingOf rgb = Rgb
+closingOf cmyk = Cmyk
+closingOf (calGray k) = CalGray k
+closingOf (calRgb k) = CalRgb k
+closingOf (lab k al ah bl bh) = Lab k
+closingOf (separation e c0 c1 s) = Nothing
+closingOf (indexed h t s) = Nothing
+
+-- the words of its recipe: Gray 6, RGB 14, CMYK 18, CalGray 9, CalRGB 26, Lab 16; Indexed adds 3 + m (hival + 1), Separation 3 + 2m, m being the
+-- count of the space within
+abbrev pub wordsOf : Space → ℕ
+wordsOf none = 0
+wordsOf gray = 6
+wordsOf rgb = 14
+wordsOf cmyk = 18
+wordsOf (calGray k) = 9
+wordsOf (calRgb k) = 26
+wordsOf (lab k al ah bl bh) = 16
+wordsOf (separation e c0 c1 s) = 3 + 2 * countOf s + wordsOf s
+wordsOf (indexed h t s) = 3 + countOf s * (h + 1) + wordsOf s
