@@ -1,3 +1,4 @@
 pub mod Numbers
 pub mod Spaces
 pub mod Pages
+pub mod Wholes

@@ -1,0 +1,7 @@
+// Validating a page: 1 to 64 blocks of 512 bytes, each with a record.
+
+// What validating comes to: accepted, or the refusal's number with the block that it is about (0 for 1).
+pub enum Verdict {
+    Accepted,
+    Refused { number: u32, block: u32 },
+}
