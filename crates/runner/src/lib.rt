@@ -1,5 +1,12 @@
 // Running a recipe: from its words and a colour's components alone.
+mod ending;
+mod parse;
+mod running;
+mod steps;
+mod words;
+
 use cie::Closing;
+pub use running::run;
 
 // A step of a recipe, with its small numbers; its other numbers are read off its words.
 pub enum Step {

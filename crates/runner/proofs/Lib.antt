@@ -1,0 +1,6 @@
+-- Laws of recipes that several proofs cite, here and in the crates above.
+pub mod Ranges
+pub mod Acts
+pub mod Stepped
+pub mod Runs
+pub mod Cases

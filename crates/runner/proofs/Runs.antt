@@ -1,0 +1,172 @@
+-- What each step of a recipe does, over plain lists: a run that begins with the step's words is the run of the words after them, or the answer.
+use mathlib.Core.Path.{_≡_, refl, ap, ap₂, _∙_}
+use mathlib.Core.Bool.{true, false, cond, _&&_}
+use mathlib.Core.List.{List, [], _∷_, _++_, append-assoc}
+use Prim.Native.Nat.{ℕ, suc, _+_, _*_, _≤_, _<_}
+use native.Mathlib.Omega.{arith}
+use lib.IntN.{ℤ, pos}
+use lib.Signed.{ltZ}
+use lib.Dec.{leb, eqb}
+use lib.ListN.{length, drop, length-append, List·getD-append}
+use lib.Seq.{drop-append-seam}
+use borrow.Author.Tests.{lt-ltb, le-ltb, le-leb, eq-eqb}
+use Rattle.fixed.specs.Numbers.{exponentSupported, gammaSupported, tintValue}
+use Rattle.fixed.specs.Values.{value, places, given, limitStep, indexOf, rowStep, tintOf, tintStep}
+use Rattle.fixed.proofs.Decide.{both}
+use Rattle.fixed.proofs.Listed.{filled-same, index-within, row-room}
+use Rattle.cie.specs.Answers.{refusal}
+use Rattle.cie.specs.Closings.{closed}
+use Rattle.cie.specs.declared.GrayClosing.{GrayClosing}
+use Rattle.cie.specs.declared.RgbClosing.{RgbClosing}
+use Rattle.cie.specs.declared.LabClosing.{LabClosing}
+use Rattle.cie.specs.declared.Closing.{Closing}
+use Rattle.cie.specs.declared.Closing.the-variants.{Gray, Rgb, Cmyk, CalGray, CalRgb, Lab}
+use Rattle.runner.specs.Steps.{limitRead, rowRead, tintRead, closeRead, grayRead, rgbRead, stepBy, stepOf}
+use Rattle.runner.specs.Runs.{ended, runs, longest, ran}
+use Rattle.runner.specs.declared.Step.the-variants.{Limit, Row, Tint, Close}
+use Rattle.runner.specs.declared.Read.the-variants.{At}
+use Rattle.runner.proofs.Stepped.{begun}
+
+-- a number of 1 to top passes its test
+pub one-to : (m top : ℕ) → 1 ≤ m → m ≤ top → (leb 1 m && leb m top) ≡ true
+one-to m top low high = both (le-leb 1 m low) (le-leb m top high)
+
+-- ---- the input count
+
+pub count-run : (m : ℕ) (l cs : List ℤ) → 1 ≤ m → m ≤ places → suc (length l) ≤ longest → ran (pos m ∷ l) cs ≡ runs m (length cs) l (given places cs)
+unfolding ran
+count-run m l cs low high short = simp (le-ltb longest (suc (length l)) short, one-to m places low high)
+
+-- ---- a limit
+
+pub limit-read : (k : ℕ) (lo hi : ℤ) (l : List ℤ) → k < places → ltZ hi lo ≡ false → stepOf (pos 1 ∷ pos k ∷ lo ∷ hi ∷ l) ≡ At (Limit k) 4
+unfolding stepBy limitRead
+limit-read k lo hi l h o =
+    let e : 4 ≤ suc (suc (suc (suc (length l)))) = omega arith in
+    simp (le-ltb _ 4 e, lt-ltb k places h, o)
+
+pub limit-run : (n c k : ℕ) (lo hi : ℤ) (l v : List ℤ) → k < places → ltZ hi lo ≡ false
+    → runs n c (pos 1 ∷ pos k ∷ lo ∷ hi ∷ l) v ≡ runs n c l (limitStep k lo hi v)
+limit-run n c k lo hi l v h o = begun n c (pos 1 ∷ pos k ∷ lo ∷ hi ∷ l) v (limit-read k lo hi l h o)
+
+-- ---- a tint: m C0s, then m C1s
+
+module _ (e m : ℕ) (c0 c1 l : List ℤ) (supported : exponentSupported e ≡ true) (low : 1 ≤ m) (high : m ≤ places) (h0 : length c0 ≡ m) (h1 : length c1 ≡ m) where
+  abbrev tinted : List ℤ
+  tinted = (pos 3 ∷ pos e ∷ pos m ∷ (c0 ++ c1)) ++ l
+
+  pub tint-read : stepOf tinted ≡ At (Tint e m) (3 + 2 * m)
+  unfolding stepBy tintRead
+  tint-read =
+      let o : 3 + 2 * m ≤ suc (suc (suc (length ((c0 ++ c1) ++ l)))) = simp length-append (omega arith) in
+      simp (supported, one-to m places low high, le-ltb _ _ o)
+
+  tint-drop : drop (3 + 2 * m) tinted ≡ l
+  tint-drop =
+      let k : 3 + 2 * m ≡ suc (suc (suc (length (c0 ++ c1)))) = simp length-append (omega arith) in
+      ap (λ (j : ℕ). drop j tinted) k ∙ drop-append-seam (c0 ++ c1) l
+
+  -- the C0s stand after three words, and the C1s after m more
+  tint-values : (v : List ℤ) → tintStep e m (drop 3 tinted) (drop (3 + m) tinted) v ≡ tintStep e m c0 c1 v
+  unfolding tintStep
+  tint-values v =
+      filled-same _ _ m v (λ k lt.
+      let a : value ((c0 ++ c1) ++ l) k ≡ value c0 k =
+      ap (λ (x : List ℤ). value x k) (append-assoc c0 c1 l) ∙ List·getD-append c0 (c1 ++ l) (pos 0) k (omega arith) in
+      let j : 3 + m ≡ suc (suc (suc (length c0))) = omega arith in
+      let d : drop (3 + m) tinted ≡ c1 ++ l =
+      ap (λ (i : ℕ). drop i tinted) j ∙ (ap (λ (x : List ℤ). drop (length c0) x) (append-assoc c0 c1 l) ∙ drop-append-seam c0 (c1 ++ l)) in
+      let b : value (drop (3 + m) tinted) k ≡ value c1 k = ap (λ (x : List ℤ). value x k) d ∙ List·getD-append c1 l (pos 0) k (omega arith) in
+      ap₂ (λ (x y : ℤ). tintValue x y (tintOf (value v 0) e)) a b)
+
+  pub tint-run : (n c : ℕ) (v : List ℤ) → runs n c ((pos 3 ∷ pos e ∷ pos m ∷ (c0 ++ c1)) ++ l) v ≡ runs n c l (tintStep e m c0 c1 v)
+  tint-run n c v = begun n c tinted v tint-read ∙ ap₂ (λ (x y : List ℤ). runs n c x y) tint-drop (tint-values v)
+
+-- ---- a row of a table of h + 1 rows, m entries each
+
+module _ (m h : ℕ) (t l : List ℤ) (low : 1 ≤ m) (high : m ≤ places) (last : h ≤ 255) (size : length t ≡ m * (h + 1)) where
+  abbrev rowed : List ℤ
+  rowed = (pos 2 ∷ pos m ∷ pos h ∷ t) ++ l
+
+  pub row-read : stepOf rowed ≡ At (Row m h) (3 + m * (h + 1))
+  unfolding stepBy rowRead
+  row-read =
+      let o : 3 + m * (h + 1) ≤ suc (suc (suc (length (t ++ l)))) = simp length-append (omega arith) in
+      simp (one-to m places low high, le-leb h 255 last, le-ltb _ _ o)
+
+  row-drop : drop (3 + m * (h + 1)) rowed ≡ l
+  row-drop =
+      let k : 3 + m * (h + 1) ≡ suc (suc (suc (length t))) = omega arith in
+      ap (λ (j : ℕ). drop j rowed) k ∙ drop-append-seam t l
+
+  -- the row that is picked lies in the table
+  row-values : (v : List ℤ) → rowStep m h (t ++ l) v ≡ rowStep m h t v
+  unfolding rowStep
+  row-values v =
+      filled-same _ _ m v (λ k lt.
+      let b : indexOf (value v 0) h * m + k < m * (h + 1) = row-room m h (indexOf (value v 0) h) k (index-within (value v 0) h) lt in
+      List·getD-append t l (pos 0) (indexOf (value v 0) h * m + k) (omega arith))
+
+  pub row-run : (n c : ℕ) (v : List ℤ) → runs n c ((pos 2 ∷ pos m ∷ pos h ∷ t) ++ l) v ≡ runs n c l (rowStep m h t v)
+  row-run n c v = begun n c rowed v row-read ∙ ap₂ (λ (x y : List ℤ). runs n c x y) row-drop (row-values v)
+
+-- ---- a closing step, after which nothing stands
+
+pub close-run : (n c : ℕ) (l v : List ℤ) (k : Closing) → stepOf l ≡ At (Close k) (length l)
+    → runs n c l v ≡ cond (eqb c n) (closed k v) (refusal 9 0)
+unfolding ended
+close-run n c l v k e = begun n c l v e ∙ simp (eq-eqb (length l) (length l) refl)
+
+pub device-gray-read : stepOf (pos 4 ∷ []) ≡ At (Close Gray) 1
+unfolding stepBy closeRead
+device-gray-read = refl
+
+pub device-rgb-read : stepOf (pos 5 ∷ []) ≡ At (Close Rgb) 1
+unfolding stepBy closeRead
+device-rgb-read = refl
+
+pub device-cmyk-read : stepOf (pos 6 ∷ []) ≡ At (Close Cmyk) 1
+unfolding stepBy closeRead
+device-cmyk-read = refl
+
+pub gray-read : (k : GrayClosing) → gammaSupported (k .gamma) ≡ true → stepOf (pos 7 ∷ k .xw ∷ k .zw ∷ k .gamma ∷ []) ≡ At (Close (CalGray k)) 4
+unfolding stepBy grayRead closeRead
+gray-read k e = simp e
+
+pub rgb-read : (k : RgbClosing) → gammaSupported (k .ga) ≡ true → gammaSupported (k .gb) ≡ true → gammaSupported (k .gc) ≡ true
+    → stepOf
+    (pos 8 ∷ k .ga ∷ k .gb ∷ k .gc ∷ k .xa ∷ k .ya ∷ k .za ∷ k .xb ∷ k .yb ∷ k .zb ∷ k .xc ∷ k .yc ∷ k .zc ∷ [])
+    ≡ At (Close (CalRgb k)) 13
+unfolding stepBy rgbRead closeRead
+rgb-read k a b c = simp (a, b, c)
+
+pub lab-read : (k : LabClosing) → stepOf (pos 9 ∷ k .xw ∷ k .zw ∷ []) ≡ At (Close (Lab k)) 3
+unfolding stepBy closeRead
+lab-read k = refl
+
+module _ (n c : ℕ) (v : List ℤ) where
+  pub device-gray-run : runs n c (pos 4 ∷ []) v ≡ cond (eqb c n) (closed Gray v) (refusal 9 0)
+  device-gray-run = close-run n c (pos 4 ∷ []) v Gray device-gray-read
+
+  pub device-rgb-run : runs n c (pos 5 ∷ []) v ≡ cond (eqb c n) (closed Rgb v) (refusal 9 0)
+  device-rgb-run = close-run n c (pos 5 ∷ []) v Rgb device-rgb-read
+
+  pub device-cmyk-run : runs n c (pos 6 ∷ []) v ≡ cond (eqb c n) (closed Cmyk v) (refusal 9 0)
+  device-cmyk-run = close-run n c (pos 6 ∷ []) v Cmyk device-cmyk-read
+
+  pub gray-run : (k : GrayClosing) → gammaSupported (k .gamma) ≡ true
+      → runs n c (pos 7 ∷ k .xw ∷ k .zw ∷ k .gamma ∷ []) v ≡ cond (eqb c n) (closed (CalGray k) v) (refusal 9 0)
+  gray-run k e = close-run n c (pos 7 ∷ k .xw ∷ k .zw ∷ k .gamma ∷ []) v (CalGray k) (gray-read k e)
+
+  pub rgb-run : (k : RgbClosing) → gammaSupported (k .ga) ≡ true → gammaSupported (k .gb) ≡ true → gammaSupported (k .gc) ≡ true
+      → runs n c
+      (pos 8 ∷ k .ga ∷ k .gb ∷ k .gc ∷ k .xa ∷ k .ya ∷ k .za ∷ k .xb ∷ k .yb ∷ k .zb ∷ k .xc ∷ k .yc ∷ k .zc ∷ [])
+      v
+      ≡ cond (eqb c n) (closed (CalRgb k) v) (refusal 9 0)
+  rgb-run k ea eb ec =
+      close-run n c
+      (pos 8 ∷ k .ga ∷ k .gb ∷ k .gc ∷ k .xa ∷ k .ya ∷ k .za ∷ k .xb ∷ k .yb ∷ k .zb ∷ k .xc ∷ k .yc ∷ k .zc ∷ [])
+      v (CalRgb k) (rgb-read k ea eb ec)
+
+  pub lab-run : (k : LabClosing) → runs n c (pos 9 ∷ k .xw ∷ k .zw ∷ []) v ≡ cond (eqb c n) (closed (Lab k) v) (refusal 9 0)
+  lab-run k = close-run n c (pos 9 ∷ k .xw ∷ k .zw ∷ []) v (Lab k) (lab-read k)

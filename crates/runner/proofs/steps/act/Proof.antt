@@ -1,0 +1,56 @@
+-- Each arm of the match is the case of `stepped`; what a step asks of its numbers is that they are in range.
+use mathlib.Core.Path.{_∙_, ap, sym, subst}
+use Rattle.runner.specs.Ranges.{InRange}
+use Rattle.runner.specs.Runs.{stepped}
+use borrow.Author.Needs.{needs}
+use Rattle.runner.proofs.steps.act.Statement.{statement}
+use Rattle.runner.proofs.steps.act.Tie as tie
+
+enum-known-s : tie.Need-enum-known-s
+enum-known-s c = search needs
+
+limit-step-requires : tie.Need-limit-step-requires
+limit-step-requires c κs = subst InRange (c .before .s .given .1) (c .before .before .before .pre)
+
+enum-known-s-2 : tie.Need-enum-known-s-2
+enum-known-s-2 c = search needs
+
+row-step-requires : tie.Need-row-step-requires
+row-step-requires c κs = let r = subst InRange (c .before .s2 .given .1) (c .before .before .before .pre) in (r .1, r .2)
+
+enum-known-s-3 : tie.Need-enum-known-s-3
+enum-known-s-3 c = search needs
+
+tint-step-requires : tie.Need-tint-step-requires
+tint-step-requires c κs = let r = subst InRange (c .before .s3 .given .1) (c .before .before .before .pre) in r .3
+
+enum-told : tie.Need-enum-told
+enum-told c = search needs
+
+returns : tie.Need-returns
+returns c = c .limit-step .ensures ∙ ap (stepped (c .before .before .before .before .args .l .now) (c .before .before .before .before .args .v)) (sym (c .before .before .s .given .1))
+
+returns-2 : tie.Need-returns-2
+returns-2 c = c .row-step .ensures ∙ ap (stepped (c .before .before .before .before .args .l .now) (c .before .before .before .before .args .v)) (sym (c .before .before .s2 .given .1))
+
+returns-3 : tie.Need-returns-3
+returns-3 c = c .tint-step .ensures ∙ ap (stepped (c .before .before .before .before .args .l .now) (c .before .before .before .before .args .v)) (sym (c .before .before .s3 .given .1))
+
+returns-4 : tie.Need-returns-4
+returns-4 c = search needs
+
+pub act-spec : {M : Type 1} → statement M
+act-spec =
+    tie.close
+    (tie.spec
+    enum-known-s
+    limit-step-requires
+    enum-known-s-2
+    row-step-requires
+    enum-known-s-3
+    tint-step-requires
+    enum-told
+    returns
+    returns-2
+    returns-3
+    returns-4)

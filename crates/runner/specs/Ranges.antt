@@ -1,0 +1,13 @@
+-- The ranges that document 01, "The recipe", gives a step's small numbers: each step that is read is within them.
+use Prim.Native.Nat.{_<_, _≤_}
+use Rattle.fixed.specs.Numbers.{greatest}
+use Rattle.fixed.specs.Values.{places}
+use Rattle.runner.specs.declared.Step.{Step}
+use Rattle.runner.specs.declared.Step.the-variants.{Limit, Row, Tint, Close}
+
+-- k 0..3; m 1..4 and h 0..255; e and m 1..4
+abbrev pub InRange : Step → Type 0
+InRange (Limit k) = k < places
+InRange (Row m h) = (1 ≤ m) × (m ≤ places) × (h ≤ 255)
+InRange (Tint e m) = (1 ≤ e) × (e ≤ greatest) × (1 ≤ m) × (m ≤ places)
+InRange (Close k) = Unit {0}
