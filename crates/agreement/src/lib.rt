@@ -1,0 +1,1 @@
+// Demand 3: running a recipe is evaluating on the page.
