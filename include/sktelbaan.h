@@ -1,0 +1,52 @@
+/* Sktelbaan: colour-space records of PDF (ISO 32000-1, clause 8.6).
+ *
+ * Every function takes what it is lent, keeps nothing and allocates nothing. Any input gets a reply: a page, a record or a recipe may be broken in any way.
+ *
+ * A reply is 64 bits. Its low half is the number of a refusal, 1 to 11, or 0 where there is none. Its high half is then the block that the refusal is about
+ * (0 for a refusal that is about none), or else what the function gives. On a refusal nothing that is lent changes.
+ *
+ * Numbers and components are signed 32-bit counts of millionths: 1.0 is 1000000.
+ */
+#ifndef SKTELBAAN_H
+#define SKTELBAAN_H
+
+#include <stddef.h>
+#include <stdint.h>
+
+#ifdef __cplusplus
+extern "C" {
+#endif
+
+/* The number of a refusal, 0 where there is none. */
+static inline uint32_t sktelbaan_refusal(uint64_t reply) { return (uint32_t)reply; }
+
+/* The block that a refusal is about, or what the function gives. */
+static inline uint32_t sktelbaan_value(uint64_t reply) { return (uint32_t)(reply >> 32); }
+
+/* What an answer is in: a value of sktelbaan_evaluate and sktelbaan_run. */
+enum { SKTELBAAN_GRAY = 1, SKTELBAAN_RGB = 2, SKTELBAAN_CMYK = 3, SKTELBAAN_XYZ = 4 };
+
+/* Device spaces, to be asked for by these numbers. */
+enum { SKTELBAAN_DEVICE_GRAY = 0xFF01, SKTELBAAN_DEVICE_RGB = 0xFF03, SKTELBAAN_DEVICE_CMYK = 0xFF04 };
+
+/* The words of the longest recipe. */
+enum { SKTELBAAN_LONGEST = 1045 };
+
+/* Validates a page: 512 bytes for each of its 1 to 64 blocks. Refusals 1 to 7; gives 0. */
+uint64_t sktelbaan_validate(const uint8_t *page, size_t page_len);
+
+/* Evaluates a colour of the space at a number of a page, a block's number or a device code. Refusals 1 to 9; gives what the answer is in, and its one, three
+ * or four floats, in order, in floats; the others stay as they were. */
+uint64_t sktelbaan_evaluate(const uint8_t *page, size_t page_len, uint32_t number, const int32_t *components, size_t count, double floats[4]);
+
+/* Writes the recipe of the space at a number of a page. Refusals 1 to 8 and 10; gives how many words it is, from the first of words on; the others stay. */
+uint64_t sktelbaan_write_recipe(const uint8_t *page, size_t page_len, uint32_t number, int32_t *words, size_t words_len);
+
+/* Runs a recipe, just its words, on a colour's components. Refusals 11 and 9; gives what sktelbaan_evaluate gives. */
+uint64_t sktelbaan_run(const int32_t *words, size_t words_len, const int32_t *components, size_t count, double floats[4]);
+
+#ifdef __cplusplus
+}
+#endif
+
+#endif
