@@ -1,11 +1,10 @@
 -- Recipes that are computed: they keep the definitions honest.
 use mathlib.Core.Path.{_≡_, refl}
 use mathlib.Core.List.{List, [], _∷_}
-use Prim.Native.Nat.{ℕ}
 use lib.IntN.{ℤ, pos, negsuc}
 use Rattle.fixed.specs.Numbers.{float, limited, partWay, tintPower, gammaSupported}
 use Rattle.fixed.specs.Values.{listed, filled, limitStep, indexOf, rowStep, tintOf, tintStep}
-use Rattle.cie.specs.Answers.{Reply, answer, refusal, inGray, inRgb}
+use Rattle.cie.specs.Answers.{answer, refusal, inGray, inRgb}
 use Rattle.cie.specs.Closings.{closed}
 use Rattle.runner.specs.Steps.{limitRead, rowRead, tintRead, closeRead, grayRead, stepBy}
 use Rattle.runner.specs.Runs.{ended, goes, ran}
