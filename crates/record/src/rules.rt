@@ -153,16 +153,20 @@ pub fn fault(r: Record) -> u32
     ensures { λ n. ⌜ n ≡ faultOf r ⌝ }
 {
     let y = r.body;
-    if !is_shaped(r) {
+    let shaped = is_shaped(r);
+    let lawful = is_lawful(y);
+    let supported = is_supported(y);
+    let refers = is_referring(y);
+    if !shaped {
         return 3;
     }
-    if !is_lawful(y) {
+    if !lawful {
         return 4;
     }
-    if !is_supported(y) {
+    if !supported {
         return 5;
     }
-    if !is_referring(y) {
+    if !refers {
         return 6;
     }
     0

@@ -9,45 +9,45 @@ use Rattle.record.proofs.rules.fault.Tie as tie
 is-shaped-requires : tie.Need-is-shaped-requires
 is-shaped-requires c κs = search needs
 
-returns : tie.Need-returns
-unfolding faultOf
-returns c = is-no _ _ _ _ (c .before .is-shaped .ensures) (not-true _ (c .if1 .taken)) refl
-
 is-lawful-requires : tie.Need-is-lawful-requires
 is-lawful-requires c κs = search needs
-
-returns-2 : tie.Need-returns-2
-unfolding faultOf
-returns-2 c = is-yes _ _ _ _ (c .before .before .before .is-shaped .ensures) (not-false _ (c .before .before .if1 .left)) (is-no _ _ _ _ (c .before .is-lawful .ensures) (not-true _ (c .if2 .taken)) refl)
 
 is-supported-requires : tie.Need-is-supported-requires
 is-supported-requires c κs = search needs
 
-returns-3 : tie.Need-returns-3
-unfolding faultOf
-returns-3 c = is-yes _ _ _ _ (c .before .before .before .before .before .is-shaped .ensures) (not-false _ (c .before .before .before .before .if1 .left)) (is-yes _ _ _ _ (c .before .before .before .is-lawful .ensures) (not-false _ (c .before .before .if2 .left)) (is-no _ _ _ _ (c .before .is-supported .ensures) (not-true _ (c .if3 .taken)) refl))
-
 is-referring-requires : tie.Need-is-referring-requires
 is-referring-requires c κs = search needs
 
+returns : tie.Need-returns
+unfolding faultOf
+returns c = is-no _ _ _ _ (c .before .before .before .before .is-shaped .ensures) (not-true _ (c .if1 .taken)) refl
+
+returns-2 : tie.Need-returns-2
+unfolding faultOf
+returns-2 c = is-yes _ _ _ _ (c .before .before .before .before .before .is-shaped .ensures) (not-false _ (c .before .if1 .left)) (is-no _ _ _ _ (c .before .before .before .before .is-lawful .ensures) (not-true _ (c .if2 .taken)) refl)
+
+returns-3 : tie.Need-returns-3
+unfolding faultOf
+returns-3 c = is-yes _ _ _ _ (c .before .before .before .before .before .before .is-shaped .ensures) (not-false _ (c .before .before .if1 .left)) (is-yes _ _ _ _ (c .before .before .before .before .before .is-lawful .ensures) (not-false _ (c .before .if2 .left)) (is-no _ _ _ _ (c .before .before .before .before .is-supported .ensures) (not-true _ (c .if3 .taken)) refl))
+
 returns-4 : tie.Need-returns-4
 unfolding faultOf
-returns-4 c = is-yes _ _ _ _ (c .before .before .before .before .before .before .before .is-shaped .ensures) (not-false _ (c .before .before .before .before .before .before .if1 .left)) (is-yes _ _ _ _ (c .before .before .before .before .before .is-lawful .ensures) (not-false _ (c .before .before .before .before .if2 .left)) (is-yes _ _ _ _ (c .before .before .before .is-supported .ensures) (not-false _ (c .before .before .if3 .left)) (is-no _ _ _ _ (c .before .is-referring .ensures) (not-true _ (c .if4 .taken)) refl)))
+returns-4 c = is-yes _ _ _ _ (c .before .before .before .before .before .before .before .is-shaped .ensures) (not-false _ (c .before .before .before .if1 .left)) (is-yes _ _ _ _ (c .before .before .before .before .before .before .is-lawful .ensures) (not-false _ (c .before .before .if2 .left)) (is-yes _ _ _ _ (c .before .before .before .before .before .is-supported .ensures) (not-false _ (c .before .if3 .left)) (is-no _ _ _ _ (c .before .before .before .before .is-referring .ensures) (not-true _ (c .if4 .taken)) refl)))
 
 returns-5 : tie.Need-returns-5
 unfolding faultOf
-returns-5 c = is-yes _ _ _ _ (c .before .before .before .before .before .before .before .is-shaped .ensures) (not-false _ (c .before .before .before .before .before .before .if1 .left)) (is-yes _ _ _ _ (c .before .before .before .before .before .is-lawful .ensures) (not-false _ (c .before .before .before .before .if2 .left)) (is-yes _ _ _ _ (c .before .before .before .is-supported .ensures) (not-false _ (c .before .before .if3 .left)) (is-yes _ _ _ _ (c .before .is-referring .ensures) (not-false _ (c .if4 .left)) refl)))
+returns-5 c = is-yes _ _ _ _ (c .before .before .before .before .before .before .before .is-shaped .ensures) (not-false _ (c .before .before .before .if1 .left)) (is-yes _ _ _ _ (c .before .before .before .before .before .before .is-lawful .ensures) (not-false _ (c .before .before .if2 .left)) (is-yes _ _ _ _ (c .before .before .before .before .before .is-supported .ensures) (not-false _ (c .before .if3 .left)) (is-yes _ _ _ _ (c .before .before .before .before .is-referring .ensures) (not-false _ (c .if4 .left)) refl)))
 
 pub fault-spec : {M : Type 1} → statement M
 fault-spec =
     tie.close
     (tie.spec
     is-shaped-requires
-    returns
     is-lawful-requires
-    returns-2
     is-supported-requires
-    returns-3
     is-referring-requires
+    returns
+    returns-2
+    returns-3
     returns-4
     returns-5)

@@ -1,0 +1,70 @@
+-- Writing and reading, exit by exit.
+use mathlib.Core.Path.{_≡_, refl, sym, ap, _∙_}
+use mathlib.Core.List.{List}
+use mathlib.Core.Bool.{true, false, cond}
+use Prim.Native.Nat.{ℕ, zero, suc}
+use borrow.Author.Tests.{eq-eqb, ne-eqb}
+use lib.ListN.{length}
+use lib.Dec.{eqb}
+use Rattle.record.specs.Layout.{blockOf, checked}
+use Rattle.record.specs.Reading.{recordAt}
+use Rattle.record.specs.Rules.{known, faultOf, faultAt}
+use Rattle.record.specs.declared.types.Record.{Record}
+use Rattle.block.specs.declared.types.Reply.{Reply}
+use Rattle.block.specs.declared.types.Reply.the-variants.{Done, Refused}
+use Rattle.block.specs.declared.types.ReadReply.{ReadReply}
+use Rattle.block.specs.Whole.{replyOf, writeNumber, writeOut, nothing, gives, readNumber, readOf}
+
+pub replied : (n : ℕ) → (n ≡ 0 → ⊥) → Refused n ≡ replyOf n
+replied zero h = absurd (h refl)
+replied (suc n) h = refl
+
+pub refused : (n : ℕ) (r : Record) → (n ≡ 0 → ⊥) → record { reply = Refused n; found = nothing } ≡ gives n r
+refused zero r h = absurd (h refl)
+refused (suc n) r h = refl
+
+-- ---- write
+
+module _ (r : Record) (d : List ℕ) where
+  pub number-short : (length d ≡ 512 → ⊥) → writeNumber r d ≡ 10
+  unfolding writeNumber
+  number-short h = rw (ne-eqb _ _ h)
+
+  pub number-fault : length d ≡ 512 → writeNumber r d ≡ faultOf r
+  unfolding writeNumber
+  number-fault l = rw (eq-eqb _ _ l)
+
+  pub write-refused : (n : ℕ) → writeNumber r d ≡ n → (n ≡ 0 → ⊥) → (Refused n ≡ replyOf (writeNumber r d)) × (d ≡ writeOut r d)
+  unfolding writeOut
+  write-refused n e h = (rw e (replied n h), rw (e, ne-eqb n 0 h))
+
+  pub write-done : (x : List ℕ) → writeNumber r d ≡ 0 → x ≡ blockOf r → (Done ≡ replyOf (writeNumber r d)) × (x ≡ writeOut r d)
+  unfolding writeOut
+  write-done x e q = (rw e, rw e q)
+
+-- ---- read
+
+module _ (b : List ℕ) where
+  pub read-short : (length b ≡ 512 → ⊥) → readNumber b ≡ 10
+  unfolding readNumber
+  read-short h = rw (ne-eqb _ _ h)
+
+  pub read-unchecked : length b ≡ 512 → checked b ≡ false → readNumber b ≡ 2
+  unfolding readNumber
+  read-unchecked l c = rw (eq-eqb _ _ l, c)
+
+  pub read-unknown : length b ≡ 512 → checked b ≡ true → known b ≡ false → readNumber b ≡ 3
+  unfolding readNumber faultAt
+  read-unknown l c k = rw (eq-eqb _ _ l, c, k)
+
+  pub read-fault : length b ≡ 512 → checked b ≡ true → known b ≡ true → readNumber b ≡ faultOf (recordAt b)
+  unfolding readNumber faultAt
+  read-fault l c k = rw (eq-eqb _ _ l, c, k)
+
+  pub read-refused : (n : ℕ) {x : ReadReply} → readNumber b ≡ n → (n ≡ 0 → ⊥) → x ≡ record { reply = Refused n; found = nothing } → x ≡ readOf b
+  unfolding readOf
+  read-refused n e h q = rw e (q ∙ refused n (recordAt b) h)
+
+  pub read-done : (r : Record) {x : ReadReply} → readNumber b ≡ 0 → r ≡ recordAt b → x ≡ record { reply = Done; found = r } → x ≡ readOf b
+  unfolding readOf
+  read-done r e i q = rw e (q ∙ (λ j. record { reply = Done; found = i j }))

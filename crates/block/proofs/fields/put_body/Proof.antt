@@ -1,0 +1,128 @@
+-- `put_body`: each kind by the call of its arm; a palette leaves no gap.
+use mathlib.Core.Path.{sym, _∙_}
+use mathlib.Core.List.{_++_}
+use Prim.Native.Nat.{_+_}
+use denote.Ref.{now}
+use Rattle.layout.specs.Field.{puts}
+use Rattle.record.specs.Layout.{body, rest}
+use borrow.Author.Needs.{needs}
+use Rattle.block.proofs.fields.put_body.Statement.{statement}
+use Rattle.block.proofs.fields.put_body.Tie as tie
+
+enum-told : tie.Need-enum-told
+enum-told c = search needs
+
+put-zeros-requires : tie.Need-put-zeros-requires
+put-zeros-requires c κs = search needs
+
+enum-known-y : tie.Need-enum-known-y
+enum-known-y c = search needs
+
+put-gray-requires : tie.Need-put-gray-requires
+put-gray-requires c κs = search needs
+
+enum-known-y-2 : tie.Need-enum-known-y-2
+enum-known-y-2 c = search needs
+
+put-rgb-requires : tie.Need-put-rgb-requires
+put-rgb-requires c κs = search needs
+
+enum-known-y-3 : tie.Need-enum-known-y-3
+enum-known-y-3 c = search needs
+
+put-lab-requires : tie.Need-put-lab-requires
+put-lab-requires c κs = search needs
+
+enum-known-y-4 : tie.Need-enum-known-y-4
+enum-known-y-4 c = search needs
+
+put-indexed-requires : tie.Need-put-indexed-requires
+put-indexed-requires c κs = search needs
+
+enum-known-y-5 : tie.Need-enum-known-y-5
+enum-known-y-5 c = search needs
+
+put-separation-requires : tie.Need-put-separation-requires
+put-separation-requires c κs = search needs
+
+enum-told-2 : tie.Need-enum-told-2
+enum-told-2 c = search needs
+
+put-run-requires : tie.Need-put-run-requires
+put-run-requires c κs = search needs
+
+same-length : tie.Need-same-length
+same-length c = search needs
+
+returns : tie.Need-returns
+returns c = c .before .before .put-zeros .ensures ∙ (λ i. puts (now (c .before .before .before .before .before .before .before .args .out)) 4 (body (sym (c .before .before .before .before .enum-told .given .1) i) (now (c .before .before .before .before .before .before .before .args .s)) ++ rest (sym (c .before .before .before .before .enum-told .given .1) i)))
+
+same-length-2 : tie.Need-same-length-2
+same-length-2 c = search needs
+
+returns-2 : tie.Need-returns-2
+returns-2 c = c .before .before .put-gray .ensures ∙ (λ i. puts (now (c .before .before .before .before .before .before .before .before .args .out)) 4 (body (sym (c .before .before .before .before .before .y .given .1) i) (now (c .before .before .before .before .before .before .before .before .args .s)) ++ rest (sym (c .before .before .before .before .before .y .given .1) i)))
+
+same-length-3 : tie.Need-same-length-3
+same-length-3 c = search needs
+
+returns-3 : tie.Need-returns-3
+returns-3 c = c .before .before .put-rgb .ensures ∙ (λ i. puts (now (c .before .before .before .before .before .before .before .before .args .out)) 4 (body (sym (c .before .before .before .before .before .y2 .given .1) i) (now (c .before .before .before .before .before .before .before .before .args .s)) ++ rest (sym (c .before .before .before .before .before .y2 .given .1) i)))
+
+same-length-4 : tie.Need-same-length-4
+same-length-4 c = search needs
+
+returns-4 : tie.Need-returns-4
+returns-4 c = c .before .before .put-lab .ensures ∙ (λ i. puts (now (c .before .before .before .before .before .before .before .before .args .out)) 4 (body (sym (c .before .before .before .before .before .y3 .given .1) i) (now (c .before .before .before .before .before .before .before .before .args .s)) ++ rest (sym (c .before .before .before .before .before .y3 .given .1) i)))
+
+same-length-5 : tie.Need-same-length-5
+same-length-5 c = search needs
+
+returns-5 : tie.Need-returns-5
+returns-5 c = c .before .before .put-indexed .ensures ∙ (λ i. puts (now (c .before .before .before .before .before .before .before .before .args .out)) 4 (body (sym (c .before .before .before .before .before .y4 .given .1) i) (now (c .before .before .before .before .before .before .before .before .args .s)) ++ rest (sym (c .before .before .before .before .before .y4 .given .1) i)))
+
+same-length-6 : tie.Need-same-length-6
+same-length-6 c = search needs
+
+returns-6 : tie.Need-returns-6
+returns-6 c = c .before .before .put-separation .ensures ∙ (λ i. puts (now (c .before .before .before .before .before .before .before .before .args .out)) 4 (body (sym (c .before .before .before .before .before .y5 .given .1) i) (now (c .before .before .before .before .before .before .before .before .args .s)) ++ rest (sym (c .before .before .before .before .before .y5 .given .1) i)))
+
+same-length-7 : tie.Need-same-length-7
+same-length-7 c = search needs
+
+returns-7 : tie.Need-returns-7
+unfolding puts
+returns-7 c = c .before .before .put-run .ensures ∙ (λ i. puts (now (c .before .before .before .before .before .before .before .args .out)) 4 (body (sym (c .before .before .before .before .enum-told2 .given .1) i) (now (c .before .before .before .before .before .before .before .args .s)) ++ rest (sym (c .before .before .before .before .enum-told2 .given .1) i)))
+
+pub put-body-spec : {M : Type 1} → statement M
+put-body-spec =
+    tie.close
+    (tie.spec
+    enum-told
+    put-zeros-requires
+    enum-known-y
+    put-gray-requires
+    enum-known-y-2
+    put-rgb-requires
+    enum-known-y-3
+    put-lab-requires
+    enum-known-y-4
+    put-indexed-requires
+    enum-known-y-5
+    put-separation-requires
+    enum-told-2
+    put-run-requires
+    same-length
+    returns
+    same-length-2
+    returns-2
+    same-length-3
+    returns-3
+    same-length-4
+    returns-4
+    same-length-5
+    returns-5
+    same-length-6
+    returns-6
+    same-length-7
+    returns-7)

@@ -1,0 +1,42 @@
+-- `put_gray`: white, black, gamma and zeros, each stored where the one before it ends.
+use mathlib.Core.Path.{refl}
+use mathlib.Core.List.{[], _∷_}
+use denote.Ref.{now}
+use Rattle.layout.specs.Field.{num}
+use Rattle.record.specs.Layout.{triple}
+use Rattle.layout.proofs.Puts.{next, sent}
+use borrow.Author.Needs.{needs}
+use Rattle.block.proofs.fields.put_gray.Statement.{statement}
+use Rattle.block.proofs.fields.put_gray.Tie as tie
+
+put-triple-requires : tie.Need-put-triple-requires
+put-triple-requires c κs = search needs
+
+put-triple-requires-2 : tie.Need-put-triple-requires-2
+put-triple-requires-2 c κs = search needs
+
+put-num-requires : tie.Need-put-num-requires
+put-num-requires c κs = search needs
+
+put-zeros-requires : tie.Need-put-zeros-requires
+put-zeros-requires c κs = search needs
+
+same-length : tie.Need-same-length
+same-length c = search needs
+
+returns : tie.Need-returns
+returns c = next (now (c .before .before .before .before .before .before .before .before .before .before .before .before .before .before .before .before .before .before .before .before .args .out)) 4 (triple _ []) _ 16 refl (c .before .before .before .before .before .before .before .before .before .before .before .before .before .before .before .put-triple .ensures)
+    (next _ 16 (triple _ []) _ 28 refl (c .before .before .before .before .before .before .before .before .before .before .before .put-triple2 .ensures)
+    (next _ 28 (num _ ∷ []) _ 32 refl (sent _ _ _ (c .before .before .before .before .before .before .before .struct-told .given .1 .1 .0 .1) (c .before .before .before .before .before .before .put-num .ensures))
+    (c .before .before .put-zeros .ensures)))
+
+pub put-gray-spec : {M : Type 1} → statement M
+put-gray-spec =
+    tie.close
+    (tie.spec
+    put-triple-requires
+    put-triple-requires-2
+    put-num-requires
+    put-zeros-requires
+    same-length
+    returns)
