@@ -17,7 +17,8 @@ use Rattle.layout.proofs.Fields.{AllGot, all-heard, all-said, written-length, w
 use Rattle.layout.proofs.Puts.{next, puts-written, puts-whole}
 use Rattle.record.specs.Layout.{body, rest, kindOf, fields, plain, weighed, check, headOf, blockOf, checked, namedTo}
 use Rattle.record.specs.Reading.{kindAt, bodyBy, bytesBy, recordAt}
-use Rattle.record.specs.Rules.{blocks, known, named, used, shaped}
+use Rattle.fixed.specs.Bytes.{blocks}
+use Rattle.record.specs.Rules.{known, named, used, shaped}
 use Rattle.record.specs.Fits.{Fits}
 use Rattle.record.specs.declared.types.Record.{Record}
 use Rattle.block.proofs.Check.{plain-same, weighed-same, plain-small, weighed-small}

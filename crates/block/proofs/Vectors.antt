@@ -6,7 +6,8 @@ use Rattle.fixed.specs.Bytes.{twoBytes, fourBytes}
 use Rattle.fixed.specs.Loops.{total, allFrom, zeroBetween}
 use Rattle.layout.specs.Field.{padded}
 use Rattle.record.specs.Layout.{headOf, plain, weighed}
-use Rattle.record.specs.Rules.{faultOf, shaped, named, lawful, supported, refers, whitePoint, blackPoint, supportedGamma}
+use Rattle.record.specs.Rules.{faultOf, shaped, named, lawful, supported, refers, whitePoint, blackPoint}
+use Rattle.fixed.specs.Numbers.{gammaSupported}
 use Rattle.record.specs.declared.types.Body.the-variants.{Free, CalGray}
 use Rattle.record.specs.declared.types.Record.{Record}
 
@@ -38,5 +39,5 @@ unfolding faultOf shaped named lawful supported refers zeroBetween allFrom
 free-accepted = refl
 
 pub gray-accepted : faultOf gray0 ≡ 0
-unfolding faultOf shaped named lawful supported refers zeroBetween allFrom whitePoint blackPoint supportedGamma
+unfolding faultOf shaped named lawful supported refers zeroBetween allFrom whitePoint blackPoint gammaSupported
 gray-accepted = refl

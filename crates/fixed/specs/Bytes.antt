@@ -1,6 +1,8 @@
 -- Document 01, "The page": numbers are big-endian, signed ones in two's complement. A byte past the end of a list is 0.
 use Prim.Native.Nat.{ℕ, _+_, _*_, _/_, _%_}
+use mathlib.Core.Bool.{Bool, _||_}
 use mathlib.Core.List.{List, [], _∷_}
+use lib.Dec.{eqb}
 use lib.ListN.{getD, drop}
 use lib.IntN.{ℤ}
 use mir.Syntax.{w32}
@@ -9,6 +11,19 @@ use mir.Val.{toZ, ofZ}
 -- the most blocks of a page
 abbrev pub blocks : ℕ
 blocks = 64
+
+-- a reference is a block number, or FF01, FF03, FF04 for DeviceGray, RGB, CMYK
+abbrev pub grayCode : ℕ
+grayCode = 0xFF01
+
+abbrev pub rgbCode : ℕ
+rgbCode = 0xFF03
+
+abbrev pub cmykCode : ℕ
+cmykCode = 0xFF04
+
+abbrev pub device : ℕ → Bool
+device n = eqb n grayCode || (eqb n rgbCode || eqb n cmykCode)
 
 -- the bytes from block n of a page on: its byte 0 is the block's byte 0
 abbrev pub blockAt : List ℕ → ℕ → List ℕ

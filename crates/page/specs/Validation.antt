@@ -4,14 +4,14 @@ use mathlib.Core.Bool.{Bool, true, _&&_, _||_, cond}
 use mathlib.Core.List.{List}
 use lib.Dec.{eqb, leb, ltb}
 use lib.ListN.{length}
-use Rattle.fixed.specs.Bytes.{blocks, blockAt}
+use Rattle.fixed.specs.Bytes.{blocks, device, blockAt}
 use Rattle.fixed.specs.Loops.{allBetween, zeroBetween, firstFrom}
 use Rattle.record.specs.Layout.{checked}
 use Rattle.record.specs.Reading.{ownAt, bodyAt}
 use Rattle.record.specs.Rules.{formed, lawful, supported}
 use Rattle.record.specs.declared.types.Body.{Body}
 use Rattle.record.specs.declared.types.Body.the-variants.{Free, CalGray, CalRgb, Lab, Indexed, Separation, Palette}
-use Rattle.space.specs.Numbers.{device, kindAt, referenceAt, hivalAt}
+use Rattle.space.specs.Numbers.{kindAt, referenceAt, hivalAt}
 use Rattle.space.specs.Spaces.{countOf}
 use Rattle.space.specs.Pages.{spaceAt}
 use Rattle.page.specs.Outcomes.{Outcome, accepted, refused}

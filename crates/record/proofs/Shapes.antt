@@ -15,7 +15,8 @@ use Rattle.fixed.proofs.Decide.{and-left}
 use Rattle.layout.specs.Field.{padded}
 use Rattle.layout.proofs.Held.{length-padded, getD-padded, all-zero}
 use Rattle.record.specs.Reading.{kindAt, ownAt, bodyBy, runAt, bytesBy, recordAt}
-use Rattle.record.specs.Rules.{blocks, noneZero, nameFits, known, nameShown, formed, used, named, shaped}
+use Rattle.fixed.specs.Bytes.{blocks}
+use Rattle.record.specs.Rules.{noneZero, nameFits, known, nameShown, formed, used, named, shaped}
 
 -- a scan finds the same at two places where the tests agree one by one
 all-same : (f g : ℕ → Bool) (j k n : ℕ) → ((i : ℕ) → i < n → f (j + i) ≡ g (k + i)) → allFrom f j n ≡ allFrom g k n

@@ -1,11 +1,12 @@
 -- Document 01, "What comes back": what is refused of a record and of a block, each number in its place.
 use mathlib.Core.List.{List}
 use mathlib.Core.Bool.{Bool, true, _&&_, _||_, cond, not}
-use Prim.Native.Nat.{ℕ, _+_, _-_, _*_, _%_}
+use Prim.Native.Nat.{ℕ, _+_}
 use lib.Dec.{eqb, leb, ltb}
-use lib.IntN.{ℤ, pos, natAbs}
+use lib.IntN.{ℤ, pos}
 use lib.Signed.{ltZ, leZ}
-use Rattle.fixed.specs.Bytes.{byteAt}
+use Rattle.fixed.specs.Numbers.{gammaSupported, exponentSupported}
+use Rattle.fixed.specs.Bytes.{blocks, byteAt, device}
 use Rattle.fixed.specs.Loops.{allBetween, zeroBetween}
 use Rattle.record.specs.Layout.{namedTo}
 use Rattle.record.specs.Reading.{kindAt, ownAt, bodyAt, recordAt}
@@ -14,13 +15,6 @@ use Rattle.record.specs.declared.types.Ranges.{Ranges}
 use Rattle.record.specs.declared.types.Body.{Body}
 use Rattle.record.specs.declared.types.Body.the-variants.{Free, CalGray, CalRgb, Lab, Indexed, Separation, Palette}
 use Rattle.record.specs.declared.types.Record.{Record}
-
--- Numbers of the format that may grow: the most blocks of a page, the greatest whole gamma and exponent.
-abbrev pub blocks : ℕ
-blocks = 64
-
-abbrev pub greatest : ℕ
-greatest = 4
 
 -- 1, in millionths
 abbrev pub unit : ℕ
@@ -98,28 +92,17 @@ lawful Palette = true
 
 -- ---- 5: a gamma or exponent is beyond the house limit
 
--- a gamma, in millionths: from 1 to the greatest, and whole
-unfoldable pub supportedGamma : ℤ → Bool
-supportedGamma v = leZ (pos unit) v && (leZ v (pos (greatest * unit)) && eqb (natAbs v % unit) 0)
-
--- an exponent, in units
-unfoldable pub supportedExponent : ℕ → Bool
-supportedExponent e = leb 1 e && leb e greatest
-
+-- each gamma and each exponent, by `fixed`'s definition
 unfoldable pub supported : Body → Bool
 supported Free = true
-supported (CalGray g) = supportedGamma (g .gamma)
-supported (CalRgb g) = supportedGamma (g .gammas .x) && (supportedGamma (g .gammas .y) && supportedGamma (g .gammas .z))
+supported (CalGray g) = gammaSupported (g .gamma)
+supported (CalRgb g) = gammaSupported (g .gammas .x) && (gammaSupported (g .gammas .y) && gammaSupported (g .gammas .z))
 supported (Lab g) = true
 supported (Indexed base hival) = true
-supported (Separation p) = supportedExponent (p .exponent)
+supported (Separation p) = exponentSupported (p .exponent)
 supported Palette = true
 
 -- ---- 6, of single blocks: a reference that is neither a device code nor 0..63
-
--- FF01 DeviceGray, FF03 DeviceRGB, FF04 DeviceCMYK
-unfoldable pub device : ℕ → Bool
-device n = eqb n 0xFF01 || (eqb n 0xFF03 || eqb n 0xFF04)
 
 unfoldable pub refers : Body → Bool
 refers Free = true

@@ -3,21 +3,20 @@ ghost use mathlib.Core.Path.{_≡_};
 ghost use mathlib.Core.Bool.{_&&_};
 ghost use lib.IntN.{pos};
 ghost use lib.Signed.{ltZ};
-ghost use Rattle.record.specs.Rules.{whitePoint, blackPoint, ordered, lawful, supportedGamma, supportedExponent, supported, device, refers, faultOf};
+ghost use Rattle.fixed.specs.Numbers.{gammaSupported};
+ghost use Rattle.fixed.specs.Bytes.{device};
+ghost use Rattle.record.specs.Rules.{whitePoint, blackPoint, ordered, lawful, supported, refers, faultOf};
 use crate::shape::is_shaped;
-use crate::types::BLOCKS;
 use crate::types::Body;
 use crate::types::CalGray;
 use crate::types::CalRgb;
 use crate::types::Lab;
+use crate::types::NUMBERS;
 use crate::types::Ranges;
 use crate::types::Record;
 use crate::types::Triple;
-
-// The greatest gamma, in millionths, and the greatest exponent.
-const GREATEST_GAMMA: i32 = 4000000;
-
-const GREATEST_EXPONENT: u8 = 4;
+use fixed::is_exponent;
+use fixed::is_gamma;
 
 fn is_white(t: Triple) -> bool
     ensures { λ r. ⌜ r ≡ whitePoint t ⌝ }
@@ -83,29 +82,10 @@ pub fn is_lawful(y: Body) -> bool
     }
 }
 
-// Whether a gamma is whole and within the house limit.
-pub fn is_supported_gamma(v: i32) -> bool
-    ensures { λ r. ⌜ r ≡ supportedGamma v ⌝ }
-{
-    if 1000000 <= v {
-        if v <= GREATEST_GAMMA {
-            return (v as u32) % 1000000 == 0;
-        }
-        return false;
-    }
-    false
-}
-
 fn rgb_supported(t: Triple) -> bool
-    ensures { λ r. ⌜ r ≡ (supportedGamma (t .x) && (supportedGamma (t .y) && supportedGamma (t .z))) ⌝ }
+    ensures { λ r. ⌜ r ≡ (gammaSupported (t .x) && (gammaSupported (t .y) && gammaSupported (t .z))) ⌝ }
 {
-    is_supported_gamma(t.x) & (is_supported_gamma(t.y) & is_supported_gamma(t.z))
-}
-
-fn exponent_supported(e: u8) -> bool
-    ensures { λ r. ⌜ r ≡ supportedExponent e ⌝ }
-{
-    (1 <= e) & (e <= GREATEST_EXPONENT)
+    is_gamma(t.x) & (is_gamma(t.y) & is_gamma(t.z))
 }
 
 // Whether each gamma and exponent of a body is within the house limit: else it is refused with 5.
@@ -114,14 +94,14 @@ pub fn is_supported(y: Body) -> bool
 {
     match y {
         Body::Free => true,
-        Body::CalGray(g) => is_supported_gamma(g.gamma),
+        Body::CalGray(g) => is_gamma(g.gamma),
         Body::CalRgb(g) => {
             let gammas = g.gammas;
             rgb_supported(gammas)
         }
         Body::Lab(_) => true,
         Body::Indexed { base: _, hival: _ } => true,
-        Body::Separation(p) => exponent_supported(p.exponent),
+        Body::Separation(p) => is_exponent(p.exponent as u32),
         Body::Palette => true,
     }
 }
@@ -142,8 +122,8 @@ pub fn is_referring(y: Body) -> bool
         Body::CalGray(_) => true,
         Body::CalRgb(_) => true,
         Body::Lab(_) => true,
-        Body::Indexed { base, hival: _ } => is_device(base) | (base < BLOCKS),
-        Body::Separation(p) => is_device(p.alternate) | (p.alternate < BLOCKS),
+        Body::Indexed { base, hival: _ } => is_device(base) | (base < NUMBERS),
+        Body::Separation(p) => is_device(p.alternate) | (p.alternate < NUMBERS),
         Body::Palette => true,
     }
 }

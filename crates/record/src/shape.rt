@@ -7,8 +7,8 @@ ghost use Rattle.fixed.specs.Loops.{zeroBetween};
 ghost use Rattle.record.specs.Layout.{namedTo};
 ghost use Rattle.record.specs.Reading.{bodyBy};
 ghost use Rattle.record.specs.Rules.{noneZero, nameFits, known, nameShown, formed, used, named, shaped};
-use crate::types::BLOCKS;
 use crate::types::Body;
+use crate::types::NUMBERS;
 use crate::types::Record;
 use fixed::byte;
 
@@ -122,5 +122,5 @@ pub fn is_shaped(r: Record) -> bool
     let y = r.body;
     let s = r.bytes;
     let from = used_of(y);
-    (r.own < BLOCKS) & (is_named(y, &s) & zero_between(&s, 0, from, 504))
+    (r.own < NUMBERS) & (is_named(y, &s) & zero_between(&s, 0, from, 504))
 }

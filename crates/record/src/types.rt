@@ -1,7 +1,7 @@
 // A record: numbers are counts of millionths, references are block numbers or device codes.
 
 // How many blocks a page has at most: the numbers of blocks are below this.
-pub const BLOCKS: u16 = 64;
+pub const NUMBERS: u16 = fixed::BLOCKS as u16;
 
 // Three numbers: a point of XYZ, or one for each of three components.
 pub struct Triple {

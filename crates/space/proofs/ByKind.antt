@@ -8,7 +8,8 @@ use borrow.Author.Tests.{ne-eqb, eqb-true}
 use Rattle.fixed.specs.Bytes.{blockAt, numberAt}
 use Rattle.fixed.proofs.Decide.{cond-ind}
 use Rattle.cie.specs.declared.Closing.the-variants.{Nothing}
-use Rattle.space.specs.Numbers.{grayCode, rgbCode, cmykCode, kindAt}
+use Rattle.fixed.specs.Bytes.{grayCode, rgbCode, cmykCode}
+use Rattle.space.specs.Numbers.{kindAt}
 use Rattle.space.specs.Spaces.{Space, none, pick3, lowOf, highOf, closingOf}
 use Rattle.space.specs.Pages.{plainBy, tintedBy, spaceBy, spaceAt}
 

@@ -10,7 +10,8 @@ use Rattle.cie.specs.declared.GrayClosing.{GrayClosing}
 use Rattle.cie.specs.declared.RgbClosing.{RgbClosing}
 use Rattle.cie.specs.declared.LabClosing.{LabClosing}
 use lib.IntN.{ℤ}
-use Rattle.space.specs.Numbers.{grayCode, rgbCode, cmykCode, kindAt, rankAt, innerAt}
+use Rattle.fixed.specs.Bytes.{grayCode, rgbCode, cmykCode}
+use Rattle.space.specs.Numbers.{kindAt, rankAt, innerAt}
 use Rattle.space.specs.Spaces.{Space, none, gray, rgb, cmyk, calGray, calRgb, lab}
 use Rattle.space.specs.Pages.{plainBy, plainAt, tintedBy, tintedAt, spaceBy, spaceAt, indexedOver, separationOver}
 use Rattle.space.proofs.Ranks.{rank-indexed, rank-separation, no-indexed, no-separation, inner-falls}

@@ -1,22 +1,9 @@
 -- Document 01, "The page": what a number is, as a reference has it or as it is asked for: a block's number, or a device code.
 use Prim.Native.Nat.{ℕ, _+_, _/_, _%_}
-use mathlib.Core.Bool.{Bool, cond, _||_}
+use mathlib.Core.Bool.{cond}
 use mathlib.Core.List.{List}
 use lib.Dec.{ltb, eqb}
 use Rattle.fixed.specs.Bytes.{blocks, blockAt, byteAt, twoAt}
-
--- FF01, FF03, FF04: DeviceGray, DeviceRGB, DeviceCMYK
-abbrev pub grayCode : ℕ
-grayCode = 0xFF01
-
-abbrev pub rgbCode : ℕ
-rgbCode = 0xFF03
-
-abbrev pub cmykCode : ℕ
-cmykCode = 0xFF04
-
-abbrev pub device : ℕ → Bool
-device n = eqb n grayCode || (eqb n rgbCode || eqb n cmykCode)
 
 -- the kind of a number: a block's kind byte, 0 past the page; a number that can be no block's is its own kind, so a device code is
 unfoldable pub kindAt : List ℕ → ℕ → ℕ

@@ -5,12 +5,12 @@ use mathlib.Core.List.{List}
 use lib.IntN.{ℤ}
 use lib.Dec.{eqb}
 use Rattle.fixed.specs.Numbers.{paletteValue}
-use Rattle.fixed.specs.Bytes.{blockAt, numberAt}
+use Rattle.fixed.specs.Bytes.{grayCode, rgbCode, cmykCode, blockAt, numberAt}
 use Rattle.fixed.specs.Values.{listed, rowStep, tintStep}
 use Rattle.cie.specs.declared.GrayClosing.{GrayClosing}
 use Rattle.cie.specs.declared.RgbClosing.{RgbClosing}
 use Rattle.cie.specs.declared.LabClosing.{LabClosing}
-use Rattle.space.specs.Numbers.{grayCode, rgbCode, cmykCode, kindAt, innerAt, hivalAt, exponentAt, paletteByte}
+use Rattle.space.specs.Numbers.{kindAt, innerAt, hivalAt, exponentAt, paletteByte}
 use Rattle.space.specs.Spaces.{Space, none, gray, rgb, cmyk, calGray, calRgb, lab, separation, indexed, countOf, lowOf, highOf}
 
 -- the numbers of a block b that its closing step has: X and Z of the white point at 4 and 12, gammas from 28, the matrix from 40

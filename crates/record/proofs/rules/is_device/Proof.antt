@@ -1,11 +1,9 @@
 -- `is_device`: its tests are those of the definition.
 use mathlib.Core.Path.{refl}
-use Rattle.record.specs.Rules.{device}
 use Rattle.record.proofs.rules.is_device.Statement.{statement}
 use Rattle.record.proofs.rules.is_device.Tie as tie
 
 returns : tie.Need-returns
-unfolding device
 returns c = refl
 
 pub is-device-spec : {M : Type 1} → statement M

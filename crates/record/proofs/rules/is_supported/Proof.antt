@@ -1,6 +1,7 @@
 -- `is_supported`: a CalGray has one gamma, a CalRGB three, a Separation an exponent.
 use mathlib.Core.Path.{ap, _∙_}
-use Rattle.record.specs.Rules.{supportedGamma, supported}
+use Rattle.record.specs.Rules.{supported}
+use Rattle.fixed.specs.Numbers.{gammaSupported}
 use Rattle.fixed.proofs.Signs.{came}
 use borrow.Author.Needs.{needs}
 use Rattle.record.proofs.rules.is_supported.Statement.{statement}
@@ -12,8 +13,8 @@ enum-told c = search needs
 enum-known-y : tie.Need-enum-known-y
 enum-known-y c = search needs
 
-is-supported-gamma-requires : tie.Need-is-supported-gamma-requires
-is-supported-gamma-requires c κs = search needs
+is-gamma-requires : tie.Need-is-gamma-requires
+is-gamma-requires c κs = search needs
 
 enum-known-y-2 : tie.Need-enum-known-y-2
 enum-known-y-2 c = search needs
@@ -30,8 +31,11 @@ enum-told-3 c = search needs
 enum-known-y-3 : tie.Need-enum-known-y-3
 enum-known-y-3 c = search needs
 
-exponent-supported-requires : tie.Need-exponent-supported-requires
-exponent-supported-requires c κs = search needs
+cast-is-exponent : tie.Need-cast-is-exponent
+cast-is-exponent c = search needs
+
+is-exponent-requires : tie.Need-is-exponent-requires
+is-exponent-requires c κs = search needs
 
 enum-told-4 : tie.Need-enum-told-4
 enum-told-4 c = search needs
@@ -42,7 +46,7 @@ returns c = rw (c .enum-told .given .1)
 
 returns-2 : tie.Need-returns-2
 unfolding supported
-returns-2 c = rw (c .before .before .before .y .given .1) (c .is-supported-gamma .ensures ∙ ap supportedGamma (came _ (c .before .struct-told .given .1 .1 .0 .1)))
+returns-2 c = rw (c .before .before .before .y .given .1) (c .is-gamma .ensures ∙ ap gammaSupported (came _ (c .before .struct-told .given .1 .1 .0 .1)))
 
 returns-3 : tie.Need-returns-3
 unfolding supported
@@ -58,7 +62,7 @@ returns-5 c = rw (c .enum-told3 .given .1)
 
 returns-6 : tie.Need-returns-6
 unfolding supported
-returns-6 c = rw (c .before .before .y3 .given .1) (c .exponent-supported .ensures)
+returns-6 c = rw (c .before .before .before .y3 .given .1) (c .is-exponent .ensures)
 
 returns-7 : tie.Need-returns-7
 unfolding supported
@@ -70,13 +74,14 @@ is-supported-spec =
     (tie.spec
     enum-told
     enum-known-y
-    is-supported-gamma-requires
+    is-gamma-requires
     enum-known-y-2
     rgb-supported-requires
     enum-told-2
     enum-told-3
     enum-known-y-3
-    exponent-supported-requires
+    cast-is-exponent
+    is-exponent-requires
     enum-told-4
     returns
     returns-2

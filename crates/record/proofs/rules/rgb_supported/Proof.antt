@@ -4,14 +4,14 @@ use borrow.Author.Needs.{needs}
 use Rattle.record.proofs.rules.rgb_supported.Statement.{statement}
 use Rattle.record.proofs.rules.rgb_supported.Tie as tie
 
-is-supported-gamma-requires : tie.Need-is-supported-gamma-requires
-is-supported-gamma-requires c κs = search needs
+is-gamma-requires : tie.Need-is-gamma-requires
+is-gamma-requires c κs = search needs
 
-is-supported-gamma-requires-2 : tie.Need-is-supported-gamma-requires-2
-is-supported-gamma-requires-2 c κs = search needs
+is-gamma-requires-2 : tie.Need-is-gamma-requires-2
+is-gamma-requires-2 c κs = search needs
 
-is-supported-gamma-requires-3 : tie.Need-is-supported-gamma-requires-3
-is-supported-gamma-requires-3 c κs = search needs
+is-gamma-requires-3 : tie.Need-is-gamma-requires-3
+is-gamma-requires-3 c κs = search needs
 
 returns : tie.Need-returns
 returns c = let g = c .before .before .before .before .before .struct-told .given in
@@ -21,7 +21,7 @@ pub rgb-supported-spec : {M : Type 1} → statement M
 rgb-supported-spec =
     tie.close
     (tie.spec
-    is-supported-gamma-requires
-    is-supported-gamma-requires-2
-    is-supported-gamma-requires-3
+    is-gamma-requires
+    is-gamma-requires-2
+    is-gamma-requires-3
     returns)
