@@ -7,7 +7,7 @@ use lib.ListN.{length}
 use borrow.Author.Tests.{eq-eqb, ne-eqb}
 use Rattle.fixed.specs.Values.{places, given}
 use Rattle.cie.specs.declared.Closing.{Closing}
-use Rattle.cie.specs.Answers.{Reply, refusal}
+use Rattle.cie.specs.Answers.{refusal}
 use Rattle.cie.specs.Closings.{closed}
 use Rattle.space.specs.Numbers.{kindAt, innerAt}
 use Rattle.space.specs.Spaces.{Space, countOf, closingOf}

@@ -53,8 +53,8 @@ pub fn limit_all(page: &[u8], n: u32, m: u32, v: [i32; VALUES]) -> [i32; VALUES]
     let mut k: u32 = 0;
     while k < m {
         let i = k as usize;
-        let x = limit(u[i], low(page, n, k), high(page, n, k));
-        u[i] = x;
+        let near = limit(u[i], low(page, n, k), high(page, n, k));
+        u[i] = near;
         k += 1;
     }
     u

@@ -1,2 +1,3 @@
 pub mod Recipes
 pub mod Writes
+pub mod Parts

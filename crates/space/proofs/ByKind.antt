@@ -3,7 +3,7 @@ use mathlib.Core.Path.{_≡_, refl, ap, _∙_, sym}
 use mathlib.Core.List.{List}
 use Prim.Native.Nat.{ℕ}
 use lib.Dec.{eqb}
-use lib.IntN.{ℤ, pos}
+use lib.IntN.{pos}
 use borrow.Author.Tests.{ne-eqb, eqb-true}
 use Rattle.fixed.specs.Bytes.{blockAt, numberAt}
 use Rattle.fixed.proofs.Decide.{cond-ind}

@@ -1,7 +1,7 @@
 -- How many components a space has, how many entries its lists, and how many words its recipe.
 use mathlib.Core.Path.{_≡_, refl, ap, _∙_, sym}
 use mathlib.Core.List.{List}
-use Prim.Native.Nat.{ℕ, _+_, _*_, _≤_, _<_}
+use Prim.Native.Nat.{ℕ, _+_, _*_, _≤_}
 use native.Mathlib.Nat.{mul-le-mul}
 use native.Mathlib.Omega.{arith}
 use lib.ListN.{length}
@@ -9,9 +9,9 @@ use Rattle.fixed.specs.Values.{places}
 use Rattle.fixed.proofs.Listed.{listed-length}
 use Rattle.space.specs.Numbers.{kindAt, rankAt, innerAt, hivalAt}
 use Rattle.space.specs.Spaces.{Space, none, gray, rgb, cmyk, calGray, calRgb, lab, separation, indexed, countOf, wordsOf}
-use Rattle.space.specs.Pages.{spaceAt, plainAt, tableOf, c0Of, c1Of}
+use Rattle.space.specs.Pages.{spaceAt, tableOf, c0Of, c1Of}
 use Rattle.space.proofs.Ranks.{falls-indexed, falls-separation}
-use Rattle.space.proofs.Levels.{at-indexed, at-separation, at-plain}
+use Rattle.space.proofs.Levels.{at-indexed, at-separation}
 
 pub count-high : (s : Space) → countOf s ≤ places
 count-high none = omega arith

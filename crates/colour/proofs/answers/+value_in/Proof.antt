@@ -1,5 +1,5 @@
 -- What the values answer: by the space within, whose rank is lower, or by the closing step of a plain space.
-use mathlib.Core.Path.{_≡_, _∙_, sym}
+use mathlib.Core.Path.{_∙_, sym}
 use Rattle.space.specs.Numbers.{rankAt}
 use Rattle.space.proofs.Ranks.{falls-indexed, falls-separation, block-indexed}
 use Rattle.colour.proofs.Replies.{value-indexed, value-separation, value-plain}

@@ -1,5 +1,5 @@
 -- The words of a recipe: it calls itself on the inner space, whose rank is lower, and adds what document 01 says.
-use mathlib.Core.Path.{_≡_, refl, _∙_, ap, sym}
+use mathlib.Core.Path.{_∙_, ap, sym}
 use native.Mathlib.Omega.{arith}
 use Rattle.space.specs.Numbers.{rankAt}
 use Rattle.space.specs.Spaces.{wordsOf}

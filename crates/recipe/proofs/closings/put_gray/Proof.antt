@@ -1,0 +1,25 @@
+-- 7 XW ZW gamma.
+use mathlib.Core.Path.{_∙_}
+use mathlib.Core.List.{[], _∷_}
+use lib.IntN.{pos}
+use lib.Seq.{sets}
+use Rattle.fixed.proofs.Signs.{came}
+use borrow.Author.Needs.{needs}
+use Rattle.recipe.proofs.closings.put_gray.Statement.{statement}
+use Rattle.recipe.proofs.closings.put_gray.Tie as tie
+
+put4-requires : tie.Need-put4-requires
+put4-requires c κs = search needs
+
+same-length : tie.Need-same-length
+same-length c = search needs
+
+returns : tie.Need-returns
+returns c =
+    let k = c .before .before .before .before .before .before .args .k in
+    let t = c .before .before .before .before .struct-told .given in
+    c .before .put4 .ensures ∙
+    (λ i. sets (c .before .before .before .before .before .before .args .words .now) (c .before .before .before .before .before .before .args .at) (pos 7 ∷ came (k .xw) (t .0 .1) i ∷ came (k .zw) (t .1 .0 .1) i ∷ came (k .gamma) (t .1 .1 .0 .1) i ∷ []))
+
+pub put-gray-spec : {M : Type 1} → statement M
+put-gray-spec = tie.close (tie.spec put4-requires same-length returns)

@@ -1,0 +1,25 @@
+-- 9 XW ZW.
+use mathlib.Core.Path.{_∙_}
+use mathlib.Core.List.{[], _∷_}
+use lib.IntN.{pos}
+use lib.Seq.{sets}
+use Rattle.fixed.proofs.Signs.{came}
+use borrow.Author.Needs.{needs}
+use Rattle.recipe.proofs.closings.put_lab.Statement.{statement}
+use Rattle.recipe.proofs.closings.put_lab.Tie as tie
+
+put3-requires : tie.Need-put3-requires
+put3-requires c κs = search needs
+
+same-length : tie.Need-same-length
+same-length c = search needs
+
+returns : tie.Need-returns
+returns c =
+    let k = c .before .before .before .before .before .args .k in
+    let t = c .before .before .before .struct-told .given in
+    c .before .put3 .ensures ∙
+    (λ i. sets (c .before .before .before .before .before .args .words .now) (c .before .before .before .before .before .args .at) (pos 9 ∷ came (k .xw) (t .0 .1) i ∷ came (k .zw) (t .1 .0 .1) i ∷ []))
+
+pub put-lab-spec : {M : Type 1} → statement M
+put-lab-spec = tie.close (tie.spec put3-requires same-length returns)

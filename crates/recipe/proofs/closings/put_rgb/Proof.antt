@@ -1,0 +1,71 @@
+-- 8, three gammas, and the matrix in the record's order: a run of four words, and three of three.
+use mathlib.Core.Path.{_∙_}
+use mathlib.Core.List.{[], _∷_}
+use native.Mathlib.Omega.{arith}
+use lib.IntN.{pos}
+use lib.Seq.{sets}
+use Rattle.fixed.proofs.Signs.{came}
+use Rattle.recipe.proofs.Words.{rgb-set}
+use borrow.Author.Needs.{needs}
+use Rattle.recipe.proofs.closings.put_rgb.Statement.{statement}
+use Rattle.recipe.proofs.closings.put_rgb.Tie as tie
+
+put4-requires : tie.Need-put4-requires
+put4-requires c κs = search needs
+
+add-put3 : tie.Need-add-put3
+add-put3 c = search needs
+
+put3-requires : tie.Need-put3-requires
+put3-requires c κs = search needs
+
+add-put3-2 : tie.Need-add-put3-2
+add-put3-2 c = let p = c .before .before .before .before .before .before .before .before .before .before .before .before .before .pre in let g = c .before .before .before .before .before .before .before .before .before .before .before .before .before .good in omega arith
+
+put3-requires-2 : tie.Need-put3-requires-2
+put3-requires-2 c κs = omega (arith, c .before .before .before .before .before .before .before .before .before .before .before .before .before .before .before .before .pre, c .before .before .before .before .before .before .before .before .before .before .before .put4 .kept .0, c .before .before .before .before .before .put3 .kept .0)
+
+add-put3-3 : tie.Need-add-put3-3
+add-put3-3 c = let p = c .before .before .before .before .before .before .before .before .before .before .before .before .before .before .before .before .before .before .before .pre in let g = c .before .before .before .before .before .before .before .before .before .before .before .before .before .before .before .before .before .before .before .good in omega arith
+
+put3-requires-3 : tie.Need-put3-requires-3
+put3-requires-3 c κs = omega (arith, c .before .before .before .before .before .before .before .before .before .before .before .before .before .before .before .before .before .before .before .before .before .before .pre, c .before .before .before .before .before .before .before .before .before .before .before .before .before .before .before .before .before .put4 .kept .0, c .before .before .before .before .before .before .before .before .before .before .before .put3 .kept .0, c .before .before .before .before .before .put32 .kept .0)
+
+same-length : tie.Need-same-length
+same-length c = c .before .put33 .kept .0 ∙ (c .before .before .before .before .before .before .before .put32 .kept .0 ∙ (c .before .before .before .before .before .before .before .before .before .before .before .before .before .put3 .kept .0 ∙ c .before .before .before .before .before .before .before .before .before .before .before .before .before .before .before .before .before .before .before .put4 .kept .0))
+
+returns : tie.Need-returns
+returns c =
+    let k = c .before .before .before .before .before .before .before .before .before .before .before .before .before .before .before .before .before .before .before .before .before .before .before .before .args .k in
+    let t = c .before .before .before .before .before .before .before .before .before .before .before .before .before .before .before .before .before .before .before .before .before .before .struct-told .given in
+    rgb-set (c .before .before .before .before .before .before .before .before .before .before .before .before .before .before .before .before .before .before .before .before .before .before .before .before .args .words .now) (c .before .before .before .before .before .before .before .before .before .before .before .before .before .before .before .before .before .before .before .before .before .before .before .before .args .at) _ _ _ _ _ _ _ _ _ _ _ _ (c .before .before .before .before .before .before .before .before .before .before .before .before .before .before .before .before .before .before .before .put4 .ensures) (c .before .before .before .before .before .before .before .before .before .before .before .before .before .put3 .ensures) (c .before .before .before .before .before .before .before .put32 .ensures) (c .before .put33 .ensures) ∙
+    (λ i.
+    sets (c .before .before .before .before .before .before .before .before .before .before .before .before .before .before .before .before .before .before .before .before .before .before .before .before .args .words .now) (c .before .before .before .before .before .before .before .before .before .before .before .before .before .before .before .before .before .before .before .before .before .before .before .before .args .at)
+    (pos 8
+    ∷ came (k .ga) (t .0 .1) i
+    ∷ came (k .gb) (t .1 .0 .1) i
+    ∷ came (k .gc) (t .1 .1 .0 .1) i
+    ∷ came (k .xa) (t .1 .1 .1 .0 .1) i
+    ∷ came (k .ya) (t .1 .1 .1 .1 .0 .1) i
+    ∷ came (k .za) (t .1 .1 .1 .1 .1 .0 .1) i
+    ∷ came (k .xb) (t .1 .1 .1 .1 .1 .1 .0 .1) i
+    ∷ came (k .yb) (t .1 .1 .1 .1 .1 .1 .1 .0 .1) i
+    ∷ came (k .zb) (t .1 .1 .1 .1 .1 .1 .1 .1 .0 .1) i
+    ∷ came (k .xc) (t .1 .1 .1 .1 .1 .1 .1 .1 .1 .0 .1) i
+    ∷ came (k .yc) (t .1 .1 .1 .1 .1 .1 .1 .1 .1 .1 .0 .1) i
+    ∷ came (k .zc) (t .1 .1 .1 .1 .1 .1 .1 .1 .1 .1 .1 .0 .1) i
+    ∷ []))
+
+pub put-rgb-spec : {M : Type 1} → statement M
+put-rgb-spec =
+    tie.close
+    (tie.spec
+    put4-requires
+    add-put3
+    put3-requires
+    add-put3-2
+    put3-requires-2
+    add-put3-3
+    put3-requires-3
+    same-length
+    returns)

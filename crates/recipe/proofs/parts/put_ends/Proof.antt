@@ -1,0 +1,56 @@
+-- The limits, and the closing step after them.
+use mathlib.Core.Path.{refl}
+use Rattle.space.specs.Pages.{spaceAt}
+use Rattle.recipe.proofs.Words.{ends-room, ends-set}
+use borrow.Author.Needs.{needs}
+use Rattle.recipe.proofs.parts.put_ends.Statement.{statement}
+use Rattle.recipe.proofs.parts.put_ends.Tie as tie
+
+components-requires : tie.Need-components-requires
+components-requires c κs = search needs
+
+put-limits-requires : tie.Need-put-limits-requires
+put-limits-requires c κs =
+    let a = c .before .before .before .args in (
+      c .before .components .ensures .1,
+      ends-room (spaceAt (a .page .now) (a .n)) _ _ (c .before .components .ensures .0) refl (a .at) (a .words .now) (a .words .now) (c .before .before .before .pre) refl .0,
+    )
+
+closing-at-requires : tie.Need-closing-at-requires
+closing-at-requires c κs = search needs
+
+cast-put-closing : tie.Need-cast-put-closing
+cast-put-closing c = search needs
+
+mul-put-closing : tie.Need-mul-put-closing
+mul-put-closing c = search needs
+
+add-put-closing : tie.Need-add-put-closing
+add-put-closing c = search needs
+
+put-closing-requires : tie.Need-put-closing-requires
+put-closing-requires c κs =
+    let a = c .before .before .before .before .before .before .before .args in
+    ends-room (spaceAt (a .page .now) (a .n)) _ _ (c .before .before .before .before .before .components .ensures .0) (c .before .closing-at .ensures) (a .at) (a .words .now)
+    (c .before .before .before .put-limits .last .1 .1 .1 .0) (c .before .before .before .before .before .before .before .pre) (c .before .before .before .put-limits .kept .1 .1 .1 .0) .1
+
+same-length : tie.Need-same-length
+same-length c = search needs
+
+returns : tie.Need-returns
+returns c =
+    ends-set (spaceAt (c .before .before .before .before .before .before .before .before .before .args .page .now) (c .before .before .before .before .before .before .before .before .before .args .n)) _ _ (c .before .before .before .before .before .before .before .components .ensures .0) (c .before .before .before .closing-at .ensures) _ _ _ _ (c .before .before .before .before .before .put-limits .ensures) (c .before .put-closing .ensures)
+
+pub put-ends-spec : {M : Type 1} → statement M
+put-ends-spec =
+    tie.close
+    (tie.spec
+    components-requires
+    put-limits-requires
+    closing-at-requires
+    cast-put-closing
+    mul-put-closing
+    add-put-closing
+    put-closing-requires
+    same-length
+    returns)

@@ -1,0 +1,82 @@
+-- 3 e m, the C0s and the C1s.
+use mathlib.Core.Path.{_≡_, _∙_, ap}
+use native.Mathlib.Omega.{arith}
+use lib.IntN.{pos}
+use lib.ListN.{length}
+use Rattle.fixed.proofs.Signs.{heard}
+use Rattle.recipe.proofs.Words.{tint-fits, tint-set}
+use borrow.Author.Needs.{needs}
+use Rattle.recipe.proofs.parts.put_tint.Statement.{statement}
+use Rattle.recipe.proofs.parts.put_tint.Tie as tie
+
+inner-requires : tie.Need-inner-requires
+inner-requires c κs = search needs
+
+components-requires : tie.Need-components-requires
+components-requires c κs = search needs
+
+byte-requires : tie.Need-byte-requires
+byte-requires c κs = search needs
+
+word-of-requires : tie.Need-word-of-requires
+word-of-requires c κs = search needs
+
+word-of-requires-2 : tie.Need-word-of-requires-2
+word-of-requires-2 c κs = search needs
+
+put3-requires : tie.Need-put3-requires
+put3-requires c κs =
+    let r = tint-fits _ _ _ _ (c .before .before .before .before .components .ensures .0) (c .before .before .before .before .before .inner .ensures .0) _ (c .before .before .before .before .before .before .before .args .words .now) (c .before .before .before .before .before .before .before .pre) in
+    omega arith
+
+add-put-numbers : tie.Need-add-put-numbers
+add-put-numbers c = search needs
+
+put-numbers-requires : tie.Need-put-numbers-requires
+put-numbers-requires c κs =
+    let r = tint-fits _ _ _ _ (c .before .before .before .before .before .before .before .components .ensures .0) (c .before .before .before .before .before .before .before .before .inner .ensures .0) _ (c .before .before .before .before .before .before .before .before .before .before .args .words .now) (c .before .before .before .before .before .before .before .before .before .before .pre) in
+    let e : length (c .before .before .put3 .last .0) ≡ length (c .before .before .before .before .before .before .before .before .before .before .args .words .now) = c .before .before .put3 .kept .0 in
+    (c .before .before .before .before .before .before .before .components .ensures .1, omega arith, omega arith)
+
+add-put-numbers-2 : tie.Need-add-put-numbers-2
+add-put-numbers-2 c = search needs
+
+cast-put-numbers : tie.Need-cast-put-numbers
+cast-put-numbers c = search needs
+
+add-put-numbers-3 : tie.Need-add-put-numbers-3
+add-put-numbers-3 c = search needs
+
+put-numbers-requires-2 : tie.Need-put-numbers-requires-2
+put-numbers-requires-2 c κs =
+    let r = tint-fits _ _ _ _ (c .before .before .before .before .before .before .before .before .before .before .components .ensures .0) (c .before .before .before .before .before .before .before .before .before .before .before .inner .ensures .0) _ (c .before .before .before .before .before .before .before .before .before .before .before .before .before .args .words .now) (c .before .before .before .before .before .before .before .before .before .before .before .before .before .pre) in
+    let e : length (c .before .before .before .before .before .put3 .last .0) ≡ length (c .before .before .before .before .before .before .before .before .before .before .before .before .before .args .words .now) = c .before .before .before .before .before .put3 .kept .0 in
+    (c .before .before .before .before .before .before .before .before .before .before .components .ensures .1, omega arith, omega (arith, c .before .before .put-numbers .kept .1 .1 .1 .1 .0))
+
+same-length : tie.Need-same-length
+same-length c = search needs
+
+returns : tie.Need-returns
+returns c =
+    tint-set _ _ _ _ (c .before .before .before .before .before .before .before .before .before .before .before .before .components .ensures .0) (c .before .before .before .before .before .before .before .before .before .before .before .before .before .inner .ensures .0) _ _ _ _ _ _ _
+    (heard _ (c .before .before .before .before .before .before .before .before .before .before .word-of .ok) (c .before .before .before .before .before .before .before .before .before .before .word-of .ensures ∙ ap pos (c .before .before .before .before .before .before .before .before .before .before .before .byte .ensures .0))) (heard _ (c .before .before .before .before .before .before .before .before .word-of2 .ok) (c .before .before .before .before .before .before .before .before .word-of2 .ensures))
+    (c .before .before .before .before .before .before .before .put3 .ensures) (c .before .before .before .before .put-numbers .ensures) (c .before .put-numbers2 .ensures)
+
+pub put-tint-spec : {M : Type 1} → statement M
+put-tint-spec =
+    tie.close
+    (tie.spec
+    inner-requires
+    components-requires
+    byte-requires
+    word-of-requires
+    word-of-requires-2
+    put3-requires
+    add-put-numbers
+    put-numbers-requires
+    add-put-numbers-2
+    cast-put-numbers
+    add-put-numbers-3
+    put-numbers-requires-2
+    same-length
+    returns)

@@ -1,0 +1,136 @@
+-- The steps as a run of stores: a head, and after it the steps of the space within, whose rank is lower; or a plain space's.
+use mathlib.Core.Path.{_∙_, ap, sym}
+use lib.Seq.{sets}
+use Rattle.space.specs.Numbers.{rankAt}
+use Rattle.space.proofs.Ranks.{falls-indexed, falls-separation, block-indexed}
+use Rattle.recipe.proofs.Steps.{steps-plain, indexed-head, indexed-room, indexed-set, separation-head, separation-room, separation-set, plain-room}
+use borrow.Author.Needs.{needs}
+use Prim.Native.Nat.{ℕ, _<_}
+use borrow.Fn.Kinds.{In}
+use borrow.Fn.PlainCycle.{Measures, is, falls, and}
+use Rattle.recipe.proofs.writing.put_steps.Reads as put-steps
+use Rattle.recipe.proofs.writing.put_steps.Kinds as put-steps-kinds
+use Rattle.recipe.proofs.writing.+put_steps.Lts-put_steps as put-steps-lts
+use Rattle.recipe.proofs.lengths.row_length.Reads as row-length-reads
+use Rattle.recipe.proofs.lengths.tint_length.Reads as tint-length-reads
+use Rattle.recipe.proofs.parts.put_ends.Reads as put-ends-reads
+use Rattle.recipe.proofs.parts.put_row.Reads as put-row-reads
+use Rattle.recipe.proofs.parts.put_tint.Reads as put-tint-reads
+use Rattle.space.proofs.inner.Reads as inner-reads
+use Rattle.space.proofs.kind.Reads as kind-reads
+use Rattle.recipe.proofs.writing.+put_steps.{statement}
+use Rattle.recipe.proofs.writing.+put_steps.Tie.{close}
+
+abbrev μ-put-steps : Measures 2 put-steps-kinds.ps ℕ
+μ-put-steps κs a = rankAt (a .0 .now) (a .1 .0)
+
+abbrev put-steps-at : ℕ → In 2 put-steps-kinds.ps
+put-steps-at t = and 2 put-steps-kinds.ps (is 2 put-steps-kinds.ps μ-put-steps t) put-steps.Pre
+
+abbrev put-steps-below : ℕ → In 2 put-steps-kinds.ps
+put-steps-below t =
+    and 2 put-steps-kinds.ps (falls 2 put-steps-kinds.ps _<_ μ-put-steps t) put-steps.Pre
+
+-- what each callee asks and tells, itself below t
+abbrev claims : ℕ → put-steps-lts.Claims
+claims t = (kind-reads.Asked, kind-reads.Learnt, put-row-reads.Asked, put-row-reads.Learnt, inner-reads.Asked, inner-reads.Learnt, row-length-reads.Asked, row-length-reads.Learnt, put-steps-below t, put-steps.Post, put-tint-reads.Asked, put-tint-reads.Learnt, tint-length-reads.Asked, tint-length-reads.Learnt, put-ends-reads.Asked, put-ends-reads.Learnt)
+
+put-steps-kind-requires : (t : ℕ) → put-steps-lts.Need-kind-requires (claims t) (put-steps-at t) put-steps.Post
+put-steps-kind-requires t c κs = search needs
+
+put-steps-put-row-requires : (t : ℕ) → put-steps-lts.Need-put-row-requires (claims t) (put-steps-at t) put-steps.Post
+put-steps-put-row-requires t c κs =
+    let k = sym (c .before .before .kind .ensures) ∙ c .before .if1 .taken in
+    (block-indexed _ _ k, indexed-head _ _ _ (c .before .before .before .before .args .words .now) (c .before .before .before .before .pre .1) k)
+
+put-steps-inner-requires : (t : ℕ) → put-steps-lts.Need-inner-requires (claims t) (put-steps-at t) put-steps.Post
+put-steps-inner-requires t c κs = search needs
+
+put-steps-row-length-requires : (t : ℕ) → put-steps-lts.Need-row-length-requires (claims t) (put-steps-at t) put-steps.Post
+put-steps-row-length-requires t c κs = search needs
+
+put-steps-cast-put-steps : (t : ℕ) → put-steps-lts.Need-cast-put-steps (claims t) (put-steps-at t) put-steps.Post
+put-steps-cast-put-steps t c = search needs
+
+put-steps-add-put-steps : (t : ℕ) → put-steps-lts.Need-add-put-steps (claims t) (put-steps-at t) put-steps.Post
+put-steps-add-put-steps t c = search needs
+
+put-steps-put-steps-requires : (t : ℕ) → put-steps-lts.Need-put-steps-requires (claims t) (put-steps-at t) put-steps.Post
+put-steps-put-steps-requires t c κs =
+    let k = sym (c .before .before .before .before .before .before .before .kind .ensures) ∙ c .before .before .before .before .before .before .if1 .taken in (
+      falls-indexed _ _ _ _ k (c .before .before .inner .ensures .0) (c .before .before .before .before .before .before .before .before .before .pre .0),
+      indexed-room _ _ _ _ (c .before .before .inner .ensures .0) k (c .row-length .ensures .0) _ (c .before .before .before .before .before .before .before .before .before .args .words .now) (c .before .before .before .before .put-row .last .1 .1 .0) (c .before .before .before .before .before .before .before .before .before .pre .1) (c .before .before .before .before .put-row .kept .1 .1 .0),
+    )
+
+put-steps-same-length : (t : ℕ) → put-steps-lts.Need-same-length (claims t) (put-steps-at t) put-steps.Post
+put-steps-same-length t c = search needs
+
+put-steps-returns : (t : ℕ) → put-steps-lts.Need-returns (claims t) (put-steps-at t) put-steps.Post
+put-steps-returns t c =
+    indexed-set _ _ _ _ (c .before .before .before .before .inner .ensures .0) (sym (c .before .before .before .before .before .before .before .before .before .kind .ensures) ∙ c .before .before .before .before .before .before .before .before .if1 .taken) (c .before .before .row-length .ensures .0) _ _ _ _ (c .before .before .before .before .before .before .put-row .ensures) (c .before .put-steps .ensures)
+
+put-steps-put-tint-requires : (t : ℕ) → put-steps-lts.Need-put-tint-requires (claims t) (put-steps-at t) put-steps.Post
+put-steps-put-tint-requires t c κs = separation-head _ _ _ (c .before .before .before .before .before .args .words .now) (c .before .before .before .before .before .pre .1) (sym (c .before .before .before .kind .ensures) ∙ c .before .if2 .taken)
+
+put-steps-inner-requires-2 : (t : ℕ) → put-steps-lts.Need-inner-requires-2 (claims t) (put-steps-at t) put-steps.Post
+put-steps-inner-requires-2 t c κs = search needs
+
+put-steps-tint-length-requires : (t : ℕ) → put-steps-lts.Need-tint-length-requires (claims t) (put-steps-at t) put-steps.Post
+put-steps-tint-length-requires t c κs = search needs
+
+put-steps-cast-put-steps-2 : (t : ℕ) → put-steps-lts.Need-cast-put-steps-2 (claims t) (put-steps-at t) put-steps.Post
+put-steps-cast-put-steps-2 t c = search needs
+
+put-steps-add-put-steps-2 : (t : ℕ) → put-steps-lts.Need-add-put-steps-2 (claims t) (put-steps-at t) put-steps.Post
+put-steps-add-put-steps-2 t c = search needs
+
+put-steps-put-steps-requires-2 : (t : ℕ) → put-steps-lts.Need-put-steps-requires-2 (claims t) (put-steps-at t) put-steps.Post
+put-steps-put-steps-requires-2 t c κs =
+    let k = sym (c .before .before .before .before .before .before .before .before .kind .ensures) ∙ c .before .before .before .before .before .before .if2 .taken in (
+      falls-separation _ _ _ _ k (c .before .before .inner2 .ensures .0) (c .before .before .before .before .before .before .before .before .before .before .pre .0),
+      separation-room _ _ _ _ (c .before .before .inner2 .ensures .0) k (c .tint-length .ensures .0) _ (c .before .before .before .before .before .before .before .before .before .before .args .words .now) (c .before .before .before .before .put-tint .last .1 .1 .0) (c .before .before .before .before .before .before .before .before .before .before .pre .1) (c .before .before .before .before .put-tint .kept .1 .1 .0),
+    )
+
+put-steps-same-length-2 : (t : ℕ) → put-steps-lts.Need-same-length-2 (claims t) (put-steps-at t) put-steps.Post
+put-steps-same-length-2 t c = search needs
+
+put-steps-returns-2 : (t : ℕ) → put-steps-lts.Need-returns-2 (claims t) (put-steps-at t) put-steps.Post
+put-steps-returns-2 t c =
+    separation-set _ _ _ _ (c .before .before .before .before .inner2 .ensures .0) (sym (c .before .before .before .before .before .before .before .before .before .before .kind .ensures) ∙ c .before .before .before .before .before .before .before .before .if2 .taken) (c .before .before .tint-length .ensures .0) _ _ _ _ (c .before .before .before .before .before .before .put-tint .ensures) (c .before .put-steps2 .ensures)
+
+put-steps-put-ends-requires : (t : ℕ) → put-steps-lts.Need-put-ends-requires (claims t) (put-steps-at t) put-steps.Post
+put-steps-put-ends-requires t c κs =
+    plain-room _ _ _ (c .before .before .before .before .before .args .words .now) (λ z. c .before .before .if1 .left (c .before .before .before .kind .ensures ∙ z)) (λ z. c .before .if2 .left (c .before .before .before .kind .ensures ∙ z)) (c .before .before .before .before .before .pre .1)
+
+put-steps-same-length-3 : (t : ℕ) → put-steps-lts.Need-same-length-3 (claims t) (put-steps-at t) put-steps.Post
+put-steps-same-length-3 t c = search needs
+
+put-steps-returns-3 : (t : ℕ) → put-steps-lts.Need-returns-3 (claims t) (put-steps-at t) put-steps.Post
+put-steps-returns-3 t c =
+    c .before .put-ends .ensures ∙
+    sym (ap (sets (c .before .before .before .before .before .before .before .args .words .now) (c .before .before .before .before .before .before .before .args .at)) (steps-plain _ _ (λ z. c .before .before .before .before .if1 .left (c .before .before .before .before .before .kind .ensures ∙ z)) (λ z. c .before .before .before .if2 .left (c .before .before .before .before .before .kind .ensures ∙ z))))
+
+pub +put-steps-spec : {M : Type 1} → statement M
++put-steps-spec = close μ-put-steps λ t. put-steps-lts.spec (claims t)
+    (put-steps-at t)
+    put-steps.Post
+    (put-steps-kind-requires t)
+    (put-steps-put-row-requires t)
+    (put-steps-inner-requires t)
+    (put-steps-row-length-requires t)
+    (put-steps-cast-put-steps t)
+    (put-steps-add-put-steps t)
+    (put-steps-put-steps-requires t)
+    (put-steps-same-length t)
+    (put-steps-returns t)
+    (put-steps-put-tint-requires t)
+    (put-steps-inner-requires-2 t)
+    (put-steps-tint-length-requires t)
+    (put-steps-cast-put-steps-2 t)
+    (put-steps-add-put-steps-2 t)
+    (put-steps-put-steps-requires-2 t)
+    (put-steps-same-length-2 t)
+    (put-steps-returns-2 t)
+    (put-steps-put-ends-requires t)
+    (put-steps-same-length-3 t)
+    (put-steps-returns-3 t)

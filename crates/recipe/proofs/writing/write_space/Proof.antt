@@ -1,0 +1,60 @@
+-- Refusal 8, then 10, then the recipe: its count, and its steps from word 1 on.
+use mathlib.Core.Path.{_∙_}
+use native.Mathlib.Omega.{arith}
+use lib.ListN.{length-set}
+use Rattle.fixed.proofs.Signs.{heard}
+use Rattle.recipe.proofs.Replies.{reply-none, reply-short, reply-words}
+use borrow.Author.Needs.{needs}
+use Rattle.recipe.proofs.writing.write_space.Statement.{statement}
+use Rattle.recipe.proofs.writing.write_space.Tie as tie
+
+components-requires : tie.Need-components-requires
+components-requires c κs = search needs
+
+returns : tie.Need-returns
+returns c = reply-none _ _ _ (c .before .components .ensures .0) (c .if1 .taken)
+
+steps-length-requires : tie.Need-steps-length-requires
+steps-length-requires c κs = search needs
+
+cast-size : tie.Need-cast-size
+cast-size c = search needs
+
+add-size : tie.Need-add-size
+add-size c = search needs
+
+returns-2 : tie.Need-returns-2
+returns-2 c = reply-short _ _ _ (c .before .before .before .components .ensures .0) (c .before .before .if1 .left) _ (c .before .steps-length .ensures .0) (c .if2 .taken)
+
+word-of-requires : tie.Need-word-of-requires
+word-of-requires c κs = search needs
+
+slice-set-from-words : tie.Need-slice-set-from-words
+slice-set-from-words c = search needs
+
+put-steps-requires : tie.Need-put-steps-requires
+put-steps-requires c κs = simp length-set (omega (arith, c .before .before .before .steps-length .ensures .0, c .before .before .if2 .left))
+
+same-length : tie.Need-same-length
+same-length c = c .before .put-steps .kept .1 .1 .0 ∙ simp length-set
+
+returns-3 : tie.Need-returns-3
+returns-3 c =
+    reply-words _ _ _ (c .before .before .before .before .before .before .before .components .ensures .0) (c .before .before .before .before .before .before .if1 .left) _ (c .before .before .before .before .before .steps-length .ensures .0) _ _
+    (heard _ (c .before .before .before .word-of .ok) (c .before .before .before .word-of .ensures)) (c .before .before .before .before .if2 .left) (c .before .put-steps .ensures)
+
+pub write-space-spec : {M : Type 1} → statement M
+write-space-spec =
+    tie.close
+    (tie.spec
+    components-requires
+    returns
+    steps-length-requires
+    cast-size
+    add-size
+    returns-2
+    word-of-requires
+    slice-set-from-words
+    put-steps-requires
+    same-length
+    returns-3)
