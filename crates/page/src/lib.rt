@@ -1,4 +1,9 @@
 // Validating a page: 1 to 64 blocks of 512 bytes, each with a record.
+mod first;
+mod second;
+mod whole;
+
+pub use whole::validate;
 
 // What validating comes to: accepted, or the refusal's number with the block that it is about (0 for 1).
 pub enum Verdict {

@@ -1,0 +1,2 @@
+-- Laws of validation that several proofs cite, here and in the crates above.
+pub mod Sizes

@@ -1,0 +1,42 @@
+// The first pass: 2 and 3, block by block.
+ghost use mathlib.Core.Path.{_≡_};
+ghost use Prim.Native.Nat.{_+_, _*_, _≤_};
+ghost use lib.ListN.{length};
+ghost use Rattle.fixed.specs.Bytes.{blocks};
+ghost use Rattle.page.specs.Outcomes.{meaning};
+ghost use Rattle.page.specs.Validation.{faultOne, passes};
+use crate::Verdict;
+use crate::second::pass_two;
+use record::is_checked;
+use record::is_formed;
+use record::own_at;
+
+// The refusal of block i that the first pass finds, or 0.
+fn fault_one(page: &[u8], i: u32) -> u32
+    requires { ⌜ 512 * i + 512 ≤ length (now page) ⌝ }
+    ensures { λ r. ⌜ r ≡ faultOne (now (page .entry)) i ⌝ }
+{
+    if is_checked(page, i) {
+        if is_formed(page, i) & (own_at(page, i) as u32 == i) {
+            return 0;
+        }
+        return 3;
+    }
+    2
+}
+
+// The first pass over n blocks, and where it finds nothing the second.
+pub fn pass_one(page: &[u8], n: u32) -> Verdict
+    requires { ⌜ (n ≤ blocks) × (512 * n ≤ length (now page)) ⌝ }
+    ensures { λ r. ⌜ meaning r ≡ passes (now (page .entry)) n ⌝ }
+{
+    let mut i: u32 = 0;
+    while i < n {
+        let number = fault_one(page, i);
+        if number != 0 {
+            return Verdict::Refused { number, block: i };
+        }
+        i += 1;
+    }
+    pass_two(page, n)
+}
