@@ -1,3 +1,4 @@
 pub mod Recipes
 pub mod Writes
 pub mod Parts
+pub mod Writing

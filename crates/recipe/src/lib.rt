@@ -1,11 +1,12 @@
-// The recipe of a space on a page: its length, which is tested first, and its words. Nothing here asks that the page was validated.
+// The recipe of a space on a page: the page validated, the recipe's length, which is tested first, and its words.
 mod closings;
 mod lengths;
+mod pages;
 mod parts;
 mod stores;
 mod writing;
 
-pub use writing::write_space;
+pub use pages::write;
 
 // What writing a recipe replies: its count of words, or the refusal's number with the block that it is about (0 for the others).
 pub enum Written {

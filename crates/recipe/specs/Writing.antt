@@ -1,0 +1,24 @@
+-- Document 01: "A recipe: judge, 8, 10." The recipe of the space at a number of a page, whatever the page.
+use Prim.Native.Nat.{ℕ}
+use mathlib.Core.List.{List}
+use lib.IntN.{ℤ}
+use Rattle.page.specs.Outcomes.{Outcome, accepted, refused}
+use Rattle.page.specs.Validation.{validated}
+use Rattle.space.specs.Pages.{spaceAt}
+use Rattle.recipe.specs.Writes.{Reply, refusal, replied, left}
+
+-- the refusal of validation, or else the reply r
+abbrev pub onAccepted : Outcome → Reply → Reply
+onAccepted accepted r = r
+onAccepted (refused number block) r = refusal number block
+
+-- words w of a page that is accepted; else what they were
+abbrev pub whereAccepted : Outcome → List ℤ → List ℤ → List ℤ
+whereAccepted accepted w words = w
+whereAccepted (refused number block) w words = words
+
+unfoldable pub writeReply : List ℕ → ℕ → List ℤ → Reply
+writeReply page n words = onAccepted (validated page) (replied (spaceAt page n) words)
+
+unfoldable pub writeLeft : List ℕ → ℕ → List ℤ → List ℤ
+writeLeft page n words = whereAccepted (validated page) (left (spaceAt page n) words) words
