@@ -10,6 +10,6 @@ pub use pages::write;
 
 // What writing a recipe replies: its count of words, or the refusal's number with the block that it is about (0 for the others).
 pub enum Written {
-    Words(usize),
+    Words(u32),
     Refused { number: u32, block: u32 },
 }

@@ -60,8 +60,8 @@ pub fn write_space(page: &[u8], n: u32, words: &mut [i32]) -> Written
             block: 0,
         };
     }
-    let size = 1 + (steps_length(page, n) as usize);
-    if words.len() < size {
+    let size = 1 + steps_length(page, n);
+    if words.len() < (size as usize) {
         return Written::Refused {
             number: 10,
             block: 0,

@@ -3,6 +3,8 @@ use Prim.Native.Nat.{ℕ, _+_, _*_}
 use mathlib.Core.List.{List}
 use lib.Ieee.{Float}
 use lib.Seq.{sets}
+use Rattle.page.specs.Outcomes.{Outcome, accepted, refused}
+use Rattle.recipe.specs.Writes.{Reply as Wrote, wrote, refusal as unwritten}
 use Rattle.cie.specs.Answers.{Kind, inGray, inRgb, inCmyk, inXyz, Reply, answer, refusal}
 
 -- a low half and a high half
@@ -25,3 +27,13 @@ replyOf (refusal number block) = inHalves number block
 abbrev pub floatsOf : Reply → List Float → List Float
 floatsOf (answer k fs) d = sets d 0 fs
 floatsOf (refusal number block) d = d
+
+-- validation: nothing is given where a page is accepted
+abbrev pub verdictOf : Outcome → ℕ
+verdictOf accepted = inHalves 0 0
+verdictOf (refused number block) = inHalves number block
+
+-- writing a recipe: its count of words
+abbrev pub countOf : Wrote → ℕ
+countOf (wrote n) = inHalves 0 n
+countOf (unwritten number block) = inHalves number block

@@ -3,8 +3,12 @@ ghost use mathlib.Core.Path.{_≡_};
 ghost use mathlib.Core.List.{[], _∷_};
 ghost use lib.Seq.{sets};
 ghost use Rattle.cie.specs.Answers.{meaning};
-ghost use Rattle.sktelbaan.specs.Replies.{replyOf, floatsOf, inHalves};
+ghost use Rattle.page.specs.Outcomes.{meaning as judged};
+ghost use Rattle.recipe.specs.Writes.{meaning as wrote};
+ghost use Rattle.sktelbaan.specs.Replies.{replyOf, floatsOf, inHalves, verdictOf, countOf};
 use cie::Answer;
+use page::Verdict;
+use recipe::Written;
 
 // A reply of two halves.
 fn halves(low: u32, high: u32) -> u64
@@ -53,5 +57,25 @@ pub fn put_answer(a: Answer, floats: &mut [f64; 4]) -> u64
             halves(0, 4)
         }
         Answer::Refused { number, block } => halves(number, block),
+    }
+}
+
+// What validating comes to, as a reply.
+pub fn verdict(v: Verdict) -> u64
+    ensures { λ r. ⌜ r ≡ verdictOf (judged v) ⌝ }
+{
+    match v {
+        Verdict::Accepted => halves(0, 0),
+        Verdict::Refused { number, block } => halves(number, block),
+    }
+}
+
+// What writing a recipe comes to, as a reply.
+pub fn count(w: Written) -> u64
+    ensures { λ r. ⌜ r ≡ countOf (wrote w) ⌝ }
+{
+    match w {
+        Written::Words(n) => halves(0, n),
+        Written::Refused { number, block } => halves(number, block),
     }
 }

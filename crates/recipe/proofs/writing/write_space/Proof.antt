@@ -4,6 +4,7 @@ use native.Mathlib.Omega.{arith}
 use lib.ListN.{length-set}
 use Rattle.fixed.proofs.Signs.{heard}
 use Rattle.recipe.proofs.Replies.{reply-none, reply-short, reply-words}
+use Rattle.space.proofs.Ranks.{rank-le}
 use borrow.Author.Needs.{needs}
 use Rattle.recipe.proofs.writing.write_space.Statement.{statement}
 use Rattle.recipe.proofs.writing.write_space.Tie as tie
@@ -17,11 +18,11 @@ returns c = reply-none _ _ _ (c .before .components .ensures .0) (c .if1 .taken)
 steps-length-requires : tie.Need-steps-length-requires
 steps-length-requires c κs = search needs
 
-cast-size : tie.Need-cast-size
-cast-size c = search needs
-
 add-size : tie.Need-add-size
-add-size c = search needs
+add-size c = omega (arith, rank-le (c .before .before .before .before .args .page .now) (c .before .before .before .before .args .n), c .steps-length .ensures .1)
+
+cast-if2 : tie.Need-cast-if2
+cast-if2 c = search needs
 
 returns-2 : tie.Need-returns-2
 returns-2 c = reply-short _ _ _ (c .before .before .before .components .ensures .0) (c .before .before .if1 .left) _ (c .before .steps-length .ensures .0) (c .if2 .taken)
@@ -50,8 +51,8 @@ write-space-spec =
     components-requires
     returns
     steps-length-requires
-    cast-size
     add-size
+    cast-if2
     returns-2
     word-of-requires
     slice-set-from-words
