@@ -1,28 +1,27 @@
 -- A block that is checked and known is the block of its record, and the block of a record that fits gives the record back.
 use mathlib.Core.Path.{_≡_, refl, sym, ap, _∙_, subst}
 use mathlib.Core.List.{List, [], _∷_, _++_}
-use mathlib.Core.Bool.{true, _&&_}
-use Prim.Native.Nat.{ℕ, _+_, _<_, _≤_}
+use mathlib.Core.Bool.{true}
+use Prim.Native.Nat.{ℕ, _+_, _≤_}
 use native.Mathlib.Omega.{arith}
 use borrow.Author.Tests.{eqb-true, eq-eqb, leb-true}
 use lib.ListN.{length, getD, drop, length-append}
 use lib.Seq.{sets-eq}
 use lib.Dec.{eqb, leb, ltb}
 use Rattle.fixed.specs.Bytes.{byteAt, twoAt}
-use Rattle.fixed.specs.Loops.{zeroBetween}
 use Rattle.fixed.proofs.Decide.{and-left, and-right}
-use Rattle.layout.specs.Field.{Field, one, two, sizes, written, puts, Bytes, InRanges}
+use Rattle.layout.specs.Field.{one, two, sizes, written, puts, Bytes}
 use Rattle.layout.proofs.Held.{Holds, held-self, held-left, held-right, held-join, held-whole}
 use Rattle.layout.proofs.Fields.{AllGot, all-heard, all-said, written-length, written-append, got-in-ranges}
 use Rattle.layout.proofs.Puts.{next, puts-written, puts-whole}
-use Rattle.record.specs.Layout.{body, rest, kindOf, fields, plain, weighed, check, headOf, blockOf, checked, namedTo}
+use Rattle.record.specs.Layout.{body, rest, kindOf, fields, plain, check, headOf, blockOf, checked}
 use Rattle.record.specs.Reading.{kindAt, bodyBy, bytesBy, recordAt}
 use Rattle.fixed.specs.Bytes.{blocks}
-use Rattle.record.specs.Rules.{known, named, used, shaped}
+use Rattle.record.specs.Rules.{known, named, shaped}
 use Rattle.record.specs.Fits.{Fits}
 use Rattle.record.specs.declared.types.Record.{Record}
 use Rattle.block.proofs.Check.{plain-same, weighed-same, plain-small, weighed-small}
-use Rattle.block.proofs.ByKind.{fieldsBy, got-by, bytes-length, sizes-of, kind-small, body-back, gap-back, bytes-back}
+use Rattle.block.proofs.ByKind.{got-by, bytes-length, sizes-of, kind-small, body-back, gap-back, bytes-back}
 
 pub head-length : (r : Record) → length (headOf r) ≡ 508
 unfolding headOf

@@ -1,7 +1,7 @@
 -- Kind by kind: each field of a body is what stands at its place, and the body that is read is that of the fields.
-use mathlib.Core.Path.{_≡_, refl, sym, ap, _∙_}
-use mathlib.Core.List.{List, [], _∷_, _++_}
-use mathlib.Core.Bool.{Bool, true, _&&_}
+use mathlib.Core.Path.{_≡_, refl, sym, _∙_}
+use mathlib.Core.List.{List, _∷_, _++_}
+use mathlib.Core.Bool.{true}
 use Prim.Native.Nat.{ℕ, zero, suc, _+_, _-_, _<_, _≤_}
 use native.Mathlib.Omega.{arith}
 use native.Mathlib.Decide.{decLt}
@@ -10,7 +10,7 @@ use lib.Seq.{ext-getD}
 use lib.Dec.{leb}
 use Rattle.fixed.specs.Bytes.{byteAt, twoAt}
 use Rattle.fixed.specs.Loops.{zeroBetween}
-use Rattle.layout.specs.Field.{Field, one, two, gap, sizes, padded}
+use Rattle.layout.specs.Field.{Field, one, two, sizes, padded}
 use Rattle.layout.proofs.Held.{Holds, length-padded, getD-padded, zero-at}
 use Rattle.layout.proofs.Fields.{AllGot}
 use Rattle.record.specs.Layout.{body, rest, kindOf, namedTo}

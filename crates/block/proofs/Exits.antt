@@ -1,16 +1,14 @@
 -- Writing and reading, exit by exit.
-use mathlib.Core.Path.{_≡_, refl, sym, ap, _∙_}
+use mathlib.Core.Path.{_≡_, refl, _∙_}
 use mathlib.Core.List.{List}
-use mathlib.Core.Bool.{true, false, cond}
+use mathlib.Core.Bool.{true, false}
 use Prim.Native.Nat.{ℕ, zero, suc}
 use borrow.Author.Tests.{eq-eqb, ne-eqb}
 use lib.ListN.{length}
-use lib.Dec.{eqb}
 use Rattle.record.specs.Layout.{blockOf, checked}
 use Rattle.record.specs.Reading.{recordAt}
 use Rattle.record.specs.Rules.{known, faultOf, faultAt}
 use Rattle.record.specs.declared.types.Record.{Record}
-use Rattle.block.specs.declared.types.Reply.{Reply}
 use Rattle.block.specs.declared.types.Reply.the-variants.{Done, Refused}
 use Rattle.block.specs.declared.types.ReadReply.{ReadReply}
 use Rattle.block.specs.Whole.{replyOf, writeNumber, writeOut, nothing, gives, readNumber, readOf}

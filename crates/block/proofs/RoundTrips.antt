@@ -1,8 +1,8 @@
 -- The round trips, of every record and every block.
-use mathlib.Core.Path.{_≡_, refl, sym, ap, _∙_, subst}
+use mathlib.Core.Path.{_≡_, refl, sym, ap, _∙_}
 use mathlib.Core.List.{List}
 use mathlib.Core.Bool.{Bool, true, false, cond}
-use Prim.Native.Nat.{ℕ}
+use Prim.Native.Nat.{ℕ, zero, suc}
 use native.Mathlib.Omega.{arith}
 use borrow.Author.Tests.{eqb-true}
 use lib.ListN.{length}
@@ -15,7 +15,7 @@ use Rattle.record.specs.Fits.{Fits}
 use Rattle.record.specs.declared.types.Record.{Record}
 use Rattle.block.specs.declared.types.Reply.the-variants.{Done}
 use Rattle.block.specs.declared.types.ReadReply.{ReadReply}
-use Rattle.block.specs.Whole.{writeNumber, writeOut, readNumber, readOf}
+use Rattle.block.specs.Whole.{writeOut, gives, readNumber, readOf, Block}
 use Rattle.block.proofs.Blocks.{Read, fits-at, block-at, read-at}
 use Rattle.block.proofs.Exits.{number-fault, write-done, read-done, read-fault}
 
@@ -45,6 +45,18 @@ accepted b e =
     let k : known b ≡ true = was _ _ 3 0 e₂ (λ h. omega arith) in
     record { long = eqb-true _ _ l; checks = c; knows = k; faultless = rw k at e₂ }
 
+done-number : (n : ℕ) (r : Record) → gives n r .reply ≡ Done → n ≡ 0
+done-number zero r e = refl
+done-number (suc n) r e = cc
+
+-- reading replies Done where it found no number to refuse with
+pub number-of-done : (b : List ℕ) → readOf b .reply ≡ Done → readNumber b ≡ 0
+unfolding readOf
+number-of-done b e = done-number (readNumber b) (recordAt b) e
+
+pub done-of-number : (b : List ℕ) → readNumber b ≡ 0 → readOf b ≡ record { reply = Done; found = recordAt b }
+done-of-number b e = sym (read-done b (recordAt b) e refl refl)
+
 -- A record that is accepted is read back, of the block that it is written as, as the same record.
 pub read-of-write : (r : Record) → Fits r → faultOf r ≡ 0 → readOf (blockOf r) ≡ record { reply = Done; found = r }
 read-of-write r fits f =
@@ -57,26 +69,26 @@ pub read-written : (r : Record) (d : List ℕ) → Fits r → length d ≡ 512 �
 read-written r d fits l f =
     ap readOf (sym (write-done r d (blockOf r) (number-fault r d l ∙ f) refl .1)) ∙ read-of-write r fits f
 
--- A block that is accepted is written again, of the record that it is read as, as the same 512 bytes.
+-- A block that is accepted is written again, of the record that it is read as, as the same bytes.
 pub write-of-read : (b : List ℕ) → Bytes b → readNumber b ≡ 0 → blockOf (recordAt b) ≡ b
 write-of-read b bytes e =
     let a = accepted b e in
     sym (block-at b bytes (a .knows) (a .long) (a .checks))
 
 -- The same of the bytes that writing leaves, whatever they were before.
-pub written-again : (b d : List ℕ) → Bytes b → length d ≡ 512 → readNumber b ≡ 0 → writeOut (recordAt b) d ≡ b
+pub written-again : (b d : List ℕ) → Bytes b → length d ≡ 512 → readOf b .reply ≡ Done → writeOut (readOf b .found) d ≡ b
 written-again b d bytes l e =
-    sym (write-done (recordAt b) d (blockOf (recordAt b)) (number-fault (recordAt b) d l ∙ accepted b e .faultless) refl .1)
-    ∙ write-of-read b bytes e
+    let n : readNumber b ≡ 0 = number-of-done b e in
+    ap (λ (a : ReadReply). writeOut (a .found) d) (done-of-number b n)
+    ∙ sym (write-done (recordAt b) d (blockOf (recordAt b)) (number-fault (recordAt b) d l ∙ accepted b n .faultless) refl .1)
+    ∙ write-of-read b bytes n
 
--- Reading refuses exactly what is no block of an accepted record: what is accepted is one ..
-pub accepted-is-block : (b : List ℕ) → Bytes b → readNumber b ≡ 0 → (r : Record) × (Fits r × (faultOf r ≡ 0 × b ≡ blockOf r))
-accepted-is-block b bytes e =
-    let a = accepted b e in
-    (recordAt b, (fits-at b bytes (a .knows), (a .faultless, sym (write-of-read b bytes e))))
-
--- .. and each is accepted.
-pub block-is-accepted : (b : List ℕ) (r : Record) → Fits r → faultOf r ≡ 0 → b ≡ blockOf r → readNumber b ≡ 0
-block-is-accepted b r fits f e =
-    let t : Read (blockOf r) r = read-at r fits (fault-shaped r f) in
-    ap readNumber e ∙ read-fault (blockOf r) (t .long) (t .checks) (t .knows) ∙ ap faultOf (t .gives) ∙ f
+-- Reading refuses exactly what is no block of an accepted record.
+pub exactly-blocks : (b : List ℕ) → Bytes b → (readOf b .reply ≡ Done → Block b) × (Block b → readOf b .reply ≡ Done)
+exactly-blocks b bytes = (
+  λ e.
+      let n : readNumber b ≡ 0 = number-of-done b e in
+      let a = accepted b n in
+      (recordAt b, (fits-at b bytes (a .knows), (a .faultless, sym (write-of-read b bytes n)))),
+  λ k. ap (λ (s : List ℕ). readOf s .reply) (k .1 .1 .1) ∙ ap (λ (a : ReadReply). a .reply) (read-of-write (k .0) (k .1 .0) (k .1 .1 .0)),
+)

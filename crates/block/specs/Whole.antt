@@ -1,4 +1,5 @@
 -- Document 01, "What comes back": writing one block, and reading one block by itself. Refusals in their order; a refusal alters no byte.
+use mathlib.Core.Path.{_≡_}
 use mathlib.Core.List.{List}
 use mathlib.Core.Bool.{cond}
 use Prim.Native.Nat.{ℕ, zero, suc}
@@ -7,6 +8,7 @@ use lib.Dec.{eqb}
 use Rattle.record.specs.Layout.{blockOf, checked}
 use Rattle.record.specs.Reading.{recordAt}
 use Rattle.record.specs.Rules.{faultOf, faultAt}
+use Rattle.record.specs.Fits.{Fits}
 use Rattle.record.specs.declared.types.Record.{Record}
 use Rattle.record.specs.declared.types.Body.the-variants.{Free}
 use Rattle.block.specs.declared.types.Reply.{Reply}
@@ -46,6 +48,10 @@ gives (suc n) r = record { reply = Refused (suc n); found = nothing }
 
 unfoldable pub readOf : List ℕ → ReadReply
 readOf b = gives (readNumber b) (recordAt b)
+
+-- b is the block of an accepted record: one with all that the type of records says, and no fault
+abbrev pub Block : List ℕ → Type 0
+Block b = (r : Record) × (Fits r × (faultOf r ≡ 0 × b ≡ blockOf r))
 
 -- ---- the round trips, as one call each
 

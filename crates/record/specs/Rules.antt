@@ -9,7 +9,7 @@ use Rattle.fixed.specs.Numbers.{gammaSupported, exponentSupported}
 use Rattle.fixed.specs.Bytes.{blocks, byteAt, device}
 use Rattle.fixed.specs.Loops.{allBetween, zeroBetween}
 use Rattle.record.specs.Layout.{namedTo}
-use Rattle.record.specs.Reading.{kindAt, ownAt, bodyAt, recordAt}
+use Rattle.record.specs.Reading.{kindAt, bodyAt, recordAt}
 use Rattle.record.specs.declared.types.Triple.{Triple}
 use Rattle.record.specs.declared.types.Ranges.{Ranges}
 use Rattle.record.specs.declared.types.Body.{Body}

@@ -23,6 +23,7 @@ pub use rules::is_supported;
 pub use shape::is_formed;
 pub use shape::is_known;
 pub use shape::is_shaped;
+pub use shape::zero_between;
 pub use types::Body;
 pub use types::CalGray;
 pub use types::CalRgb;

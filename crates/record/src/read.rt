@@ -2,7 +2,7 @@
 ghost use mathlib.Core.Path.{_≡_};
 ghost use Prim.Native.Nat.{_<_, _≤_};
 ghost use Rattle.fixed.specs.Bytes.{blockAt, twoAt};
-ghost use Rattle.record.specs.Reading.{tripleAt, rangesAt, fourAt, grayAt, rgbAt, labAt, separationAt, ownAt, bodyBy, bodyAt, runAt, bytesBy, recordAt};
+ghost use Rattle.record.specs.Reading.{tripleAt, rangesAt, fourAt, grayAt, rgbAt, labAt, separationAt, ownAt, bodyAt, runAt, bytesBy, recordAt};
 use crate::types::Body;
 use crate::types::CalGray;
 use crate::types::CalRgb;

@@ -12,7 +12,8 @@ use crate::types::NUMBERS;
 use crate::types::Record;
 use fixed::byte;
 
-fn zero_between(page: &[u8], n: u32, from: u32, to: u32) -> bool
+// Whether the bytes of block n from `from` to below `to` are zero.
+pub fn zero_between(page: &[u8], n: u32, from: u32, to: u32) -> bool
     ensures { λ r. ⌜ r ≡ zeroBetween (blockAt (now (page .entry)) n) from to ⌝ }
 {
     let mut k = from;

@@ -1,4 +1,6 @@
 -- `name_fits`: its tests are those of the definition.
+use mathlib.Core.Bool.{_&&_}
+use lib.Dec.{leb}
 use Rattle.record.specs.Rules.{nameFits}
 use borrow.Author.Needs.{needs}
 use Rattle.record.proofs.shape.name_fits.Statement.{statement}
@@ -18,7 +20,9 @@ zero-between-requires c κs = search needs
 
 returns : tie.Need-returns
 unfolding nameFits
-returns c = cc
+returns c =
+    let count = c .before .before .before .args .count in
+    λ i. leb 1 count && (leb count 127 && (c .before .none-zero .ensures i && c .zero-between .ensures i))
 
 pub name-fits-spec : {M : Type 1} → statement M
 name-fits-spec =
