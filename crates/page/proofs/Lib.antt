@@ -1,2 +1,6 @@
--- Laws of validation that several proofs cite, here and in the crates above.
+-- Laws of validation and of accepted pages that several proofs cite, here and in the crates above.
 pub mod Sizes
+pub mod Firsts
+pub mod Accepted
+pub mod Permits
+pub mod Wholes

@@ -16,13 +16,15 @@ fn fault_one(page: &[u8], i: u32) -> u32
     requires { ⌜ 512 * i + 512 ≤ length (now page) ⌝ }
     ensures { λ r. ⌜ r ≡ faultOne (now (page .entry)) i ⌝ }
 {
-    if is_checked(page, i) {
-        if is_formed(page, i) & (own_at(page, i) as u32 == i) {
-            return 0;
-        }
+    let checked = is_checked(page, i);
+    let formed = is_formed(page, i) & (own_at(page, i) as u32 == i);
+    if !checked {
+        return 2;
+    }
+    if !formed {
         return 3;
     }
-    2
+    0
 }
 
 // The first pass over n blocks, and where it finds nothing the second.

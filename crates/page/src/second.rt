@@ -143,16 +143,20 @@ fn fault_owed(page: &[u8], i: u32, owed: u32) -> u32
     ensures { λ r. ⌜ r ≡ faultOwed (now (page .entry)) i owed (bodyAt (blockAt (now (page .entry)) i)) ⌝ }
 {
     let y = body_at(page, i);
-    if !is_lawful(y) {
+    let lawful = is_lawful(y);
+    let supported = is_supported(y);
+    let permitted = permits(page, y);
+    let held = holds(page, i, owed, y);
+    if !lawful {
         return 4;
     }
-    if !is_supported(y) {
+    if !supported {
         return 5;
     }
-    if !permits(page, y) {
+    if !permitted {
         return 6;
     }
-    if !holds(page, i, owed, y) {
+    if !held {
         return 7;
     }
     0

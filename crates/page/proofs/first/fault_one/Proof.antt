@@ -1,9 +1,9 @@
 -- `fault_one`: the check is looked at before the shape.
-use mathlib.Core.Path.{_≡_, refl, ap₂}
+use mathlib.Core.Path.{_≡_, refl}
 use mathlib.Core.Bool.{Bool, _&&_}
 use Prim.Native.Nat.{ℕ}
 use lib.Dec.{eqb}
-use Rattle.fixed.proofs.Decide.{is-yes, is-no}
+use Rattle.fixed.proofs.Decide.{is-yes, is-no, not-true, not-false}
 use Rattle.page.specs.Validation.{faultOne}
 use borrow.Author.Needs.{needs}
 use Rattle.page.proofs.first.fault_one.Statement.{statement}
@@ -22,20 +22,20 @@ is-formed-requires c κs = search needs
 own-at-requires : tie.Need-own-at-requires
 own-at-requires c κs = search needs
 
-cast-if2 : tie.Need-cast-if2
-cast-if2 c = search needs
+cast-formed : tie.Need-cast-formed
+cast-formed c = search needs
 
 returns : tie.Need-returns
 unfolding faultOne
-returns c = is-yes _ _ _ _ (c .before .before .before .before .is-checked .ensures) (c .before .before .before .if1 .taken) (is-yes _ _ _ _ (shown _ _ _ (c .before .before .is-formed .ensures) (c .before .own-at .ensures)) (c .if2 .taken) refl)
+returns c = is-no _ _ _ _ (c .before .before .before .is-checked .ensures) (not-true _ (c .if1 .taken)) refl
 
 returns-2 : tie.Need-returns-2
 unfolding faultOne
-returns-2 c = is-yes _ _ _ _ (c .before .before .before .before .is-checked .ensures) (c .before .before .before .if1 .taken) (is-no _ _ _ _ (shown _ _ _ (c .before .before .is-formed .ensures) (c .before .own-at .ensures)) (c .if2 .left) refl)
+returns-2 c = is-yes _ _ _ _ (c .before .before .before .before .is-checked .ensures) (not-false _ (c .before .if1 .left)) (is-no _ _ _ _ (shown _ _ _ (c .before .before .before .is-formed .ensures) (c .before .before .own-at .ensures)) (not-true _ (c .if2 .taken)) refl)
 
 returns-3 : tie.Need-returns-3
 unfolding faultOne
-returns-3 c = is-no _ _ _ _ (c .before .is-checked .ensures) (c .if1 .left) refl
+returns-3 c = is-yes _ _ _ _ (c .before .before .before .before .is-checked .ensures) (not-false _ (c .before .if1 .left)) (is-yes _ _ _ _ (shown _ _ _ (c .before .before .before .is-formed .ensures) (c .before .before .own-at .ensures)) (not-false _ (c .if2 .left)) refl)
 
 pub fault-one-spec : {M : Type 1} → statement M
 fault-one-spec =
@@ -44,7 +44,7 @@ fault-one-spec =
     is-checked-requires
     is-formed-requires
     own-at-requires
-    cast-if2
+    cast-formed
     returns
     returns-2
     returns-3)

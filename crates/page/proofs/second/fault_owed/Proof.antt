@@ -13,34 +13,34 @@ body-at-requires c κs = search needs
 is-lawful-requires : tie.Need-is-lawful-requires
 is-lawful-requires c κs = search needs
 
-returns : tie.Need-returns
-unfolding faultOwed
-returns c = is-no _ _ _ _ (c .before .is-lawful .ensures ∙ ap lawful (c .before .before .body-at .ensures)) (not-true _ (c .if1 .taken)) refl
-
 is-supported-requires : tie.Need-is-supported-requires
 is-supported-requires c κs = search needs
-
-returns-2 : tie.Need-returns-2
-unfolding faultOwed
-returns-2 c = is-yes _ _ _ _ (c .before .before .before .is-lawful .ensures ∙ ap lawful (c .before .before .before .before .body-at .ensures)) (not-false _ (c .before .before .if1 .left)) (is-no _ _ _ _ (c .before .is-supported .ensures ∙ ap supported (c .before .before .before .before .body-at .ensures)) (not-true _ (c .if2 .taken)) refl)
 
 permits-requires : tie.Need-permits-requires
 permits-requires c κs = search needs
 
-returns-3 : tie.Need-returns-3
-unfolding faultOwed
-returns-3 c = is-yes _ _ _ _ (c .before .before .before .before .before .is-lawful .ensures ∙ ap lawful (c .before .before .before .before .before .before .body-at .ensures)) (not-false _ (c .before .before .before .before .if1 .left)) (is-yes _ _ _ _ (c .before .before .before .is-supported .ensures ∙ ap supported (c .before .before .before .before .before .before .body-at .ensures)) (not-false _ (c .before .before .if2 .left)) (is-no _ _ _ _ (c .before .permits .ensures ∙ ap (permitted _) (c .before .before .before .before .before .before .body-at .ensures)) (not-true _ (c .if3 .taken)) refl))
-
 holds-requires : tie.Need-holds-requires
 holds-requires c κs = search needs
 
+returns : tie.Need-returns
+unfolding faultOwed
+returns c = is-no _ _ _ _ (c .before .before .before .before .is-lawful .ensures ∙ ap lawful (c .before .before .before .before .before .body-at .ensures)) (not-true _ (c .if1 .taken)) refl
+
+returns-2 : tie.Need-returns-2
+unfolding faultOwed
+returns-2 c = is-yes _ _ _ _ (c .before .before .before .before .before .is-lawful .ensures ∙ ap lawful (c .before .before .before .before .before .before .body-at .ensures)) (not-false _ (c .before .if1 .left)) (is-no _ _ _ _ (c .before .before .before .before .is-supported .ensures ∙ ap supported (c .before .before .before .before .before .before .body-at .ensures)) (not-true _ (c .if2 .taken)) refl)
+
+returns-3 : tie.Need-returns-3
+unfolding faultOwed
+returns-3 c = is-yes _ _ _ _ (c .before .before .before .before .before .before .is-lawful .ensures ∙ ap lawful (c .before .before .before .before .before .before .before .body-at .ensures)) (not-false _ (c .before .before .if1 .left)) (is-yes _ _ _ _ (c .before .before .before .before .before .is-supported .ensures ∙ ap supported (c .before .before .before .before .before .before .before .body-at .ensures)) (not-false _ (c .before .if2 .left)) (is-no _ _ _ _ (c .before .before .before .before .permits .ensures ∙ ap (permitted _) (c .before .before .before .before .before .before .before .body-at .ensures)) (not-true _ (c .if3 .taken)) refl))
+
 returns-4 : tie.Need-returns-4
 unfolding faultOwed
-returns-4 c = is-yes _ _ _ _ (c .before .before .before .before .before .before .before .is-lawful .ensures ∙ ap lawful (c .before .before .before .before .before .before .before .before .body-at .ensures)) (not-false _ (c .before .before .before .before .before .before .if1 .left)) (is-yes _ _ _ _ (c .before .before .before .before .before .is-supported .ensures ∙ ap supported (c .before .before .before .before .before .before .before .before .body-at .ensures)) (not-false _ (c .before .before .before .before .if2 .left)) (is-yes _ _ _ _ (c .before .before .before .permits .ensures ∙ ap (permitted _) (c .before .before .before .before .before .before .before .before .body-at .ensures)) (not-false _ (c .before .before .if3 .left)) (is-no _ _ _ _ (c .before .holds .ensures ∙ ap (held _ _ _) (c .before .before .before .before .before .before .before .before .body-at .ensures)) (not-true _ (c .if4 .taken)) refl)))
+returns-4 c = is-yes _ _ _ _ (c .before .before .before .before .before .before .before .is-lawful .ensures ∙ ap lawful (c .before .before .before .before .before .before .before .before .body-at .ensures)) (not-false _ (c .before .before .before .if1 .left)) (is-yes _ _ _ _ (c .before .before .before .before .before .before .is-supported .ensures ∙ ap supported (c .before .before .before .before .before .before .before .before .body-at .ensures)) (not-false _ (c .before .before .if2 .left)) (is-yes _ _ _ _ (c .before .before .before .before .before .permits .ensures ∙ ap (permitted _) (c .before .before .before .before .before .before .before .before .body-at .ensures)) (not-false _ (c .before .if3 .left)) (is-no _ _ _ _ (c .before .before .before .before .holds .ensures ∙ ap (held _ _ _) (c .before .before .before .before .before .before .before .before .body-at .ensures)) (not-true _ (c .if4 .taken)) refl)))
 
 returns-5 : tie.Need-returns-5
 unfolding faultOwed
-returns-5 c = is-yes _ _ _ _ (c .before .before .before .before .before .before .before .is-lawful .ensures ∙ ap lawful (c .before .before .before .before .before .before .before .before .body-at .ensures)) (not-false _ (c .before .before .before .before .before .before .if1 .left)) (is-yes _ _ _ _ (c .before .before .before .before .before .is-supported .ensures ∙ ap supported (c .before .before .before .before .before .before .before .before .body-at .ensures)) (not-false _ (c .before .before .before .before .if2 .left)) (is-yes _ _ _ _ (c .before .before .before .permits .ensures ∙ ap (permitted _) (c .before .before .before .before .before .before .before .before .body-at .ensures)) (not-false _ (c .before .before .if3 .left)) (is-yes _ _ _ _ (c .before .holds .ensures ∙ ap (held _ _ _) (c .before .before .before .before .before .before .before .before .body-at .ensures)) (not-false _ (c .if4 .left)) refl)))
+returns-5 c = is-yes _ _ _ _ (c .before .before .before .before .before .before .before .is-lawful .ensures ∙ ap lawful (c .before .before .before .before .before .before .before .before .body-at .ensures)) (not-false _ (c .before .before .before .if1 .left)) (is-yes _ _ _ _ (c .before .before .before .before .before .before .is-supported .ensures ∙ ap supported (c .before .before .before .before .before .before .before .before .body-at .ensures)) (not-false _ (c .before .before .if2 .left)) (is-yes _ _ _ _ (c .before .before .before .before .before .permits .ensures ∙ ap (permitted _) (c .before .before .before .before .before .before .before .before .body-at .ensures)) (not-false _ (c .before .if3 .left)) (is-yes _ _ _ _ (c .before .before .before .before .holds .ensures ∙ ap (held _ _ _) (c .before .before .before .before .before .before .before .before .body-at .ensures)) (not-false _ (c .if4 .left)) refl)))
 
 pub fault-owed-spec : {M : Type 1} → statement M
 fault-owed-spec =
@@ -48,11 +48,11 @@ fault-owed-spec =
     (tie.spec
     body-at-requires
     is-lawful-requires
-    returns
     is-supported-requires
-    returns-2
     permits-requires
-    returns-3
     holds-requires
+    returns
+    returns-2
+    returns-3
     returns-4
     returns-5)
