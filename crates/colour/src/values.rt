@@ -1,6 +1,7 @@
 // The steps on values that a space's record asks for: its components limited, a row of its palette, its tint.
 ghost use mathlib.Core.Path.{_≡_};
 ghost use Prim.Native.Nat.{_+_, _*_, _<_, _≤_};
+ghost use Rattle.fixed.specs.Bytes.{blocks};
 ghost use Rattle.fixed.specs.Numbers.{tintValue};
 ghost use Rattle.fixed.specs.Values.{places, value, filled, given};
 ghost use Rattle.space.specs.Numbers.{innerAt};
@@ -22,6 +23,7 @@ use space::high;
 use space::inner;
 use space::low;
 
+// Component k, 0 where there is none.
 fn component(components: &[i32], k: usize) -> i32
     ensures { λ r. ⌜ r ≡ value (now (components .entry)) k ⌝ }
 {
@@ -62,7 +64,7 @@ pub fn limit_all(page: &[u8], n: u32, m: u32, v: [i32; VALUES]) -> [i32; VALUES]
 
 // The m entries from `at` on of the table of the Indexed block n, over the base b.
 fn fill_row(page: &[u8], n: u32, b: u32, m: u32, at: u32, v: [i32; VALUES]) -> [i32; VALUES]
-    requires { ⌜ (n < 64) × (at + m ≤ 262144) × (m ≤ places) × (m ≡ countOf (spaceAt (now page) b)) ⌝ }
+    requires { ⌜ (n < blocks) × (at + m ≤ 262144) × (m ≤ places) × (m ≡ countOf (spaceAt (now page) b)) ⌝ }
     ensures { λ r. ⌜ r ≡ filled (λ k. entryOf (now (page .entry)) n (spaceAt (now (page .entry)) b) (at + k)) m v ⌝ }
 {
     let mut u = v;
@@ -78,7 +80,7 @@ fn fill_row(page: &[u8], n: u32, b: u32, m: u32, at: u32, v: [i32; VALUES]) -> [
 
 // The row of the palette that value 0 picks: a colour of the base.
 pub fn pick_row(page: &[u8], n: u32, v: [i32; VALUES]) -> [i32; VALUES]
-    requires { ⌜ n < 64 ⌝ }
+    requires { ⌜ n < blocks ⌝ }
     ensures { λ r. ⌜ r ≡ rowAt (now (page .entry)) n (spaceAt (now (page .entry)) (innerAt (now (page .entry)) n)) v ⌝ }
 {
     let b = inner(page, n);

@@ -28,6 +28,7 @@ pub fn closing_length(k: Closing) -> u32
     }
 }
 
+// X and Z of the white point, and the gamma.
 fn put_gray(k: GrayClosing, words: &mut [i32], at: usize)
     requires { ⌜ at + 4 ≤ length (now words) ⌝ }
     ensures { λ _. ⌜ now (words .exit) ≡ sets (now (words .entry)) at (closingWords (CalGray k)) ⌝ }
@@ -46,6 +47,7 @@ fn put_rgb(k: RgbClosing, words: &mut [i32], at: usize)
     put3(words, at + 10, k.xc, k.yc, k.zc);
 }
 
+// X and Z of the white point.
 fn put_lab(k: LabClosing, words: &mut [i32], at: usize)
     requires { ⌜ at + 3 ≤ length (now words) ⌝ }
     ensures { λ _. ⌜ now (words .exit) ≡ sets (now (words .entry)) at (closingWords (Lab k)) ⌝ }

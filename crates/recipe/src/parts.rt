@@ -3,7 +3,7 @@ ghost use mathlib.Core.Path.{_≡_};
 ghost use Prim.Native.Nat.{_+_, _*_, _<_, _≤_};
 ghost use lib.ListN.{length};
 ghost use lib.Seq.{sets};
-ghost use Rattle.fixed.specs.Bytes.{blockAt, numberAt};
+ghost use Rattle.fixed.specs.Bytes.{blocks, blockAt, numberAt};
 ghost use Rattle.fixed.specs.Values.{places, listed};
 ghost use Rattle.space.specs.Numbers.{innerAt};
 ghost use Rattle.space.specs.Spaces.{countOf};
@@ -26,7 +26,7 @@ use space::low;
 
 // The first `count` entries of the table of the Indexed block n over the base b, of m components.
 fn put_table(page: &[u8], n: u32, b: u32, m: u32, count: u32, words: &mut [i32], at: usize)
-    requires { ⌜ (n < 64) × (count ≤ 262144) × (at + count ≤ length (now words)) × (0 < m) × (m ≡ countOf (spaceAt (now page) b)) ⌝ }
+    requires { ⌜ (n < blocks) × (count ≤ 262144) × (at + count ≤ length (now words)) × (0 < m) × (m ≡ countOf (spaceAt (now page) b)) ⌝ }
     ensures { λ _. ⌜ now (words .exit) ≡ sets (now (words .entry)) at (listed (entryOf (now (page .entry)) n (spaceAt (now (page .entry)) b)) count) ⌝ }
 {
     let mut j: u32 = 0;
@@ -77,7 +77,7 @@ pub fn put_ends(page: &[u8], n: u32, words: &mut [i32], at: usize)
 
 // Step 2 of the Indexed block n.
 pub fn put_row(page: &[u8], n: u32, words: &mut [i32], at: usize)
-    requires { ⌜ (n < 64) × (at + length (rowWords (now page) n (spaceAt (now page) (innerAt (now page) n))) ≤ length (now words)) ⌝ }
+    requires { ⌜ (n < blocks) × (at + length (rowWords (now page) n (spaceAt (now page) (innerAt (now page) n))) ≤ length (now words)) ⌝ }
     ensures { λ _. ⌜ now (words .exit) ≡ sets (now (words .entry)) at (rowWords (now (page .entry)) n (spaceAt (now (page .entry)) (innerAt (now (page .entry)) n))) ⌝ }
 {
     let b = inner(page, n);

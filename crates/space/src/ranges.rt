@@ -61,6 +61,7 @@ pub fn high(page: &[u8], n: u32, k: u32) -> i32
     1000000
 }
 
+// The numbers of CalGray's closing step, from its record.
 fn gray_numbers(page: &[u8], n: u32) -> GrayClosing
     ensures { λ r. ⌜ r ≡ grayNumbers (blockAt (now (page .entry)) n) ⌝ }
 {
@@ -71,6 +72,7 @@ fn gray_numbers(page: &[u8], n: u32) -> GrayClosing
     }
 }
 
+// Those of CalRGB's, the matrix in the record's order.
 fn rgb_numbers(page: &[u8], n: u32) -> RgbClosing
     ensures { λ r. ⌜ r ≡ rgbNumbers (blockAt (now (page .entry)) n) ⌝ }
 {
@@ -90,6 +92,7 @@ fn rgb_numbers(page: &[u8], n: u32) -> RgbClosing
     }
 }
 
+// Those of Lab's.
 fn lab_numbers(page: &[u8], n: u32) -> LabClosing
     ensures { λ r. ⌜ r ≡ labNumbers (blockAt (now (page .entry)) n) ⌝ }
 {

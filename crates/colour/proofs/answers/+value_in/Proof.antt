@@ -45,10 +45,20 @@ value-in-pick-row-requires : (t : ℕ) → value-in-lts.Need-pick-row-requires (
 value-in-pick-row-requires t c κs = block-indexed _ _ (sym (c .before .before .kind .ensures) ∙ c .before .if1 .taken)
 
 value-in-value-in-requires : (t : ℕ) → value-in-lts.Need-value-in-requires (claims t) (value-in-at t) value-in.Post
-value-in-value-in-requires t c κs = (falls-indexed _ _ _ _ (sym (c .before .before .before .kind .ensures) ∙ c .before .before .if1 .taken) (c .before .inner .ensures .0) (c .before .before .before .before .before .pre .0), tt)
+value-in-value-in-requires t c κs =
+    let kind = c .before .before .before .kind in
+    let if1 = c .before .before .if1 in
+    let inner = c .before .inner in
+    let pre = c .before .before .before .before .before .pre in
+    (falls-indexed _ _ _ _ (sym (kind .ensures) ∙ if1 .taken) (inner .ensures .0) (pre .0), tt)
 
 value-in-returns : (t : ℕ) → value-in-lts.Need-returns (claims t) (value-in-at t) value-in.Post
-value-in-returns t c = c .value-in .ensures ∙ value-indexed _ _ _ _ _ (c .before .before .inner .ensures .0) (sym (c .before .before .before .before .kind .ensures) ∙ c .before .before .before .if1 .taken) (c .before .pick-row .ensures)
+value-in-returns t c =
+    let inner = c .before .before .inner in
+    let kind = c .before .before .before .before .kind in
+    let if1 = c .before .before .before .if1 in
+    let pick-row = c .before .pick-row in
+    c .value-in .ensures ∙ value-indexed _ _ _ _ _ (inner .ensures .0) (sym (kind .ensures) ∙ if1 .taken) (pick-row .ensures)
 
 value-in-inner-requires-2 : (t : ℕ) → value-in-lts.Need-inner-requires-2 (claims t) (value-in-at t) value-in.Post
 value-in-inner-requires-2 t c κs = search needs
@@ -57,10 +67,20 @@ value-in-tint-requires : (t : ℕ) → value-in-lts.Need-tint-requires (claims t
 value-in-tint-requires t c κs = search needs
 
 value-in-value-in-requires-2 : (t : ℕ) → value-in-lts.Need-value-in-requires-2 (claims t) (value-in-at t) value-in.Post
-value-in-value-in-requires-2 t c κs = (falls-separation _ _ _ _ (sym (c .before .before .before .before .kind .ensures) ∙ c .before .before .if2 .taken) (c .before .inner2 .ensures .0) (c .before .before .before .before .before .before .pre .0), tt)
+value-in-value-in-requires-2 t c κs =
+    let kind = c .before .before .before .before .kind in
+    let if2 = c .before .before .if2 in
+    let inner2 = c .before .inner2 in
+    let pre = c .before .before .before .before .before .before .pre in
+    (falls-separation _ _ _ _ (sym (kind .ensures) ∙ if2 .taken) (inner2 .ensures .0) (pre .0), tt)
 
 value-in-returns-2 : (t : ℕ) → value-in-lts.Need-returns-2 (claims t) (value-in-at t) value-in.Post
-value-in-returns-2 t c = c .value-in2 .ensures ∙ value-separation _ _ _ _ _ (c .before .before .inner2 .ensures .0) (sym (c .before .before .before .before .before .kind .ensures) ∙ c .before .before .before .if2 .taken) (c .before .tint .ensures)
+value-in-returns-2 t c =
+    let inner2 = c .before .before .inner2 in
+    let kind = c .before .before .before .before .before .kind in
+    let if2 = c .before .before .before .if2 in
+    let tint = c .before .tint in
+    c .value-in2 .ensures ∙ value-separation _ _ _ _ _ (inner2 .ensures .0) (sym (kind .ensures) ∙ if2 .taken) (tint .ensures)
 
 value-in-closing-at-requires : (t : ℕ) → value-in-lts.Need-closing-at-requires (claims t) (value-in-at t) value-in.Post
 value-in-closing-at-requires t c κs = search needs
@@ -76,9 +96,15 @@ value-in-close-requires t c κs = search needs
 
 value-in-returns-3 : (t : ℕ) → value-in-lts.Need-returns-3 (claims t) (value-in-at t) value-in.Post
 value-in-returns-3 t c =
+    let if1 = c .before .before .before .before .before .if1 in
+    let kind = c .before .before .before .before .before .before .kind in
+    let if2 = c .before .before .before .before .if2 in
+    let closing-at = c .before .before .before .closing-at in
+    let components = c .before .before .components in
+    let limit-all = c .before .limit-all in
     c .close .ensures ∙
-    value-plain _ _ _ _ _ _ (λ z. c .before .before .before .before .before .if1 .left (c .before .before .before .before .before .before .kind .ensures ∙ z)) (λ z. c .before .before .before .before .if2 .left (c .before .before .before .before .before .before .kind .ensures ∙ z))
-    (c .before .before .before .closing-at .ensures) (c .before .before .components .ensures .0) (c .before .limit-all .ensures)
+    value-plain _ _ _ _ _ _ (λ z. if1 .left (kind .ensures ∙ z)) (λ z. if2 .left (kind .ensures ∙ z))
+    (closing-at .ensures) (components .ensures .0) (limit-all .ensures)
 
 pub +value-in-spec : {M : Type 1} → statement M
 +value-in-spec = close μ-value-in λ t. value-in-lts.spec (claims t)

@@ -13,10 +13,17 @@ cast-m : tie.Need-cast-m
 cast-m c = search needs
 
 returns : tie.Need-returns
-returns c = answered-8 (spaceAt (c .before .before .before .args .page .now) (c .before .before .before .args .n)) (c .before .before .before .args .components .now) _ (c .before .components .ensures .0) (c .if1 .taken)
+returns c =
+    let args = c .before .before .before .args in
+    let components = c .before .components in
+    answered-8 (spaceAt (args .page .now) (args .n)) (args .components .now) _ (components .ensures .0) (c .if1 .taken)
 
 returns-2 : tie.Need-returns-2
-returns-2 c = answered-9 (spaceAt (c .before .before .before .before .args .page .now) (c .before .before .before .before .args .n)) (c .before .before .before .before .args .components .now) _ (c .before .before .components .ensures .0) (c .before .if1 .left) (c .if2 .taken)
+returns-2 c =
+    let args = c .before .before .before .before .args in
+    let components = c .before .before .components in
+    let if1 = c .before .if1 in
+    answered-9 (spaceAt (args .page .now) (args .n)) (args .components .now) _ (components .ensures .0) (if1 .left) (c .if2 .taken)
 
 start-requires : tie.Need-start-requires
 start-requires c κs = search needs
@@ -26,8 +33,13 @@ value-in-requires c κs = search needs
 
 returns-3 : tie.Need-returns-3
 returns-3 c =
+    let args = c .before .before .before .before .before .before .args in
+    let components = c .before .before .before .before .components in
+    let if1 = c .before .before .before .if1 in
+    let if2 = c .before .before .if2 in
+    let start = c .before .start in
     c .value-in .ensures ∙
-    answered-as (spaceAt (c .before .before .before .before .before .before .args .page .now) (c .before .before .before .before .before .before .args .n)) (c .before .before .before .before .before .before .args .components .now) _ (c .before .before .before .before .components .ensures .0) (c .before .before .before .if1 .left) _ (c .before .before .if2 .left) (c .before .start .ensures)
+    answered-as (spaceAt (args .page .now) (args .n)) (args .components .now) _ (components .ensures .0) (if1 .left) _ (if2 .left) (start .ensures)
 
 pub evaluate-space-spec : {M : Type 1} → statement M
 evaluate-space-spec =

@@ -43,13 +43,18 @@ loop-less c = omega arith
 
 loop-again : tie.Need-loop-again Inv-loop μ-loop
 loop-again c =
-    let a = c .before .before .before .before .args in (
+    let args = c .before .before .before .before .args in
+    let loop = c .before .before .loop in
+    let a = args in (
       omega arith,
-      filled-turn (λ j. entryOf (a .page .now) (a .n) (spaceAt (a .page .now) (a .b)) (a .at + j)) _ _ (c .before .before .loop .inv .1) (heard _ (c .entry .ok) (c .entry .ensures)),
+      filled-turn (λ j. entryOf (a .page .now) (a .n) (spaceAt (a .page .now) (a .b)) (a .at + j)) _ _ (loop .inv .1) (heard _ (c .entry .ok) (c .entry .ensures)),
     )
 
 returns : tie.Need-returns Inv-loop μ-loop
-returns c = let e : c .before .loop .k ≡ c .before .before .before .args .m = omega arith in c .before .loop .inv .1 ∙ rw e
+returns c =
+    let loop = c .before .loop in
+    let args = c .before .before .before .args in
+    let e : loop .k ≡ args .m = omega arith in loop .inv .1 ∙ rw e
 
 pub fill-row-spec : {M : Type 1} → statement M
 fill-row-spec =

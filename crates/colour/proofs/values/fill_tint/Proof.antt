@@ -59,15 +59,22 @@ loop-less c = omega arith
 
 loop-again : tie.Need-loop-again Inv-loop μ-loop
 loop-again c =
-    let a = c .before .before .before .before .before .before .args in (
+    let args = c .before .before .before .before .before .before .args in
+    let loop = c .before .before .before .before .loop in
+    let number2 = c .before .number2 in
+    let number = c .before .before .number in
+    let a = args in (
       omega arith,
-      filled-turn (λ j. tintValue (c0At (a .page .now) (a .n) j) (c1At (a .page .now) (a .n) j) (a .q)) _ _ (c .before .before .before .before .loop .inv .1)
+      filled-turn (λ j. tintValue (c0At (a .page .now) (a .n) j) (c1At (a .page .now) (a .n) j) (a .q)) _ _ (loop .inv .1)
           (heard _ (c .tint-value .ok)
-          (c .tint-value .ensures ∙ simp (heard _ (c .before .number2 .ok) (c .before .number2 .ensures), heard _ (c .before .before .number .ok) (c .before .before .number .ensures)))),
+          (c .tint-value .ensures ∙ simp (heard _ (number2 .ok) (number2 .ensures), heard _ (number .ok) (number .ensures)))),
     )
 
 returns : tie.Need-returns Inv-loop μ-loop
-returns c = let e : c .before .loop .k ≡ c .before .before .before .args .m = omega arith in c .before .loop .inv .1 ∙ rw e
+returns c =
+    let loop = c .before .loop in
+    let args = c .before .before .before .args in
+    let e : loop .k ≡ args .m = omega arith in loop .inv .1 ∙ rw e
 
 pub fill-tint-spec : {M : Type 1} → statement M
 fill-tint-spec =

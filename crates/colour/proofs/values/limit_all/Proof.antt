@@ -53,16 +53,23 @@ loop-less : tie.Need-loop-less Inv-loop μ-loop
 loop-less c = omega arith
 
 loop-again : tie.Need-loop-again Inv-loop μ-loop
-loop-again c = (
-  omega arith,
-  limited-turn _ _ _ (c .before .before .before .before .before .loop .inv .1)
-      (heard _ (c .limit .ok)
-      (c .limit .ensures ∙
-      simp (heard _ (c .before .before .low .ok) (c .before .before .low .ensures), heard _ (c .before .high .ok) (c .before .high .ensures), came (getD (c .before .before .before .before .before .loop .u) (c .before .before .before .before .before .loop .k) (pos 0)) (c .before .before .before .limit-arg .given)))),
-)
+loop-again c =
+    let loop = c .before .before .before .before .before .loop in
+    let low = c .before .before .low in
+    let high = c .before .high in
+    let limit-arg = c .before .before .before .limit-arg in (
+      omega arith,
+      limited-turn _ _ _ (loop .inv .1)
+          (heard _ (c .limit .ok)
+          (c .limit .ensures ∙
+          simp (heard _ (low .ok) (low .ensures), heard _ (high .ok) (high .ensures), came (getD (loop .u) (loop .k) (pos 0)) (limit-arg .given)))),
+    )
 
 returns : tie.Need-returns Inv-loop μ-loop
-returns c = let e : c .before .loop .k ≡ c .before .before .before .args .m = omega arith in c .before .loop .inv .1 ∙ rw e
+returns c =
+    let loop = c .before .loop in
+    let args = c .before .before .before .args in
+    let e : loop .k ≡ args .m = omega arith in loop .inv .1 ∙ rw e
 
 pub limit-all-spec : {M : Type 1} → statement M
 limit-all-spec =

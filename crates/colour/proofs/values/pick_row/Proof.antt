@@ -28,23 +28,36 @@ round-index-requires c κs = search needs
 
 mul-fill-row : tie.Need-mul-fill-row
 mul-fill-row c =
-    let i = index-le _ _ (toZ w32 (ofZ w32 (value (c .before .before .before .before .before .before .args .t3) 0))) (c .round-index .ensures) in
-    omega (arith, few-rows (c .round-index .result) (c .before .before .before .components .result) (c .before .before .two .result) i (c .before .before .before .components .ensures .1) (c .before .before .two .ensures .1))
+    let args = c .before .before .before .before .before .before .args in
+    let components = c .before .before .before .components in
+    let two = c .before .before .two in
+    let i = index-le _ _ (toZ w32 (ofZ w32 (value (args .t3) 0))) (c .round-index .ensures) in
+    omega (arith, few-rows (c .round-index .result) (components .result) (two .result) i (components .ensures .1) (two .ensures .1))
 
 fill-row-requires : tie.Need-fill-row-requires
 fill-row-requires c κs =
-    let i = index-le _ _ (toZ w32 (ofZ w32 (value (c .before .before .before .before .before .before .args .t3) 0))) (c .round-index .ensures) in (
-      c .before .before .before .before .before .before .pre,
-      few-rows (c .round-index .result) (c .before .before .before .components .result) (c .before .before .two .result) i (c .before .before .before .components .ensures .1) (c .before .before .two .ensures .1),
-      c .before .before .before .components .ensures .1,
-      c .before .before .before .components .ensures .0,
+    let args = c .before .before .before .before .before .before .args in
+    let pre = c .before .before .before .before .before .before .pre in
+    let components = c .before .before .before .components in
+    let two = c .before .before .two in
+    let i = index-le _ _ (toZ w32 (ofZ w32 (value (args .t3) 0))) (c .round-index .ensures) in (
+      pre,
+      few-rows (c .round-index .result) (components .result) (two .result) i (components .ensures .1) (two .ensures .1),
+      components .ensures .1,
+      components .ensures .0,
     )
 
 returns : tie.Need-returns
 returns c =
+    let args = c .before .before .before .before .before .before .before .args in
+    let inner = c .before .before .before .before .before .inner in
+    let components = c .before .before .before .before .components in
+    let round-index-arg = c .before .before .round-index-arg in
+    let two = c .before .before .before .two in
+    let round-index = c .before .round-index in
     c .fill-row .ensures ∙
-    row-picked _ _ _ _ _ (toZ w32 (ofZ w32 (value (c .before .before .before .before .before .before .before .args .t3) 0))) _ (c .before .before .before .before .before .inner .ensures .0) (c .before .before .before .before .components .ensures .0) (came (value (c .before .before .before .before .before .before .before .args .t3) 0) (c .before .before .round-index-arg .given))
-    _ _ (c .before .before .before .two .ensures .0) (c .before .round-index .ensures)
+    row-picked _ _ _ _ _ (toZ w32 (ofZ w32 (value (args .t3) 0))) _ (inner .ensures .0) (components .ensures .0) (came (value (args .t3) 0) (round-index-arg .given))
+    _ _ (two .ensures .0) (round-index .ensures)
 
 pub pick-row-spec : {M : Type 1} → statement M
 pick-row-spec =

@@ -21,10 +21,13 @@ component-requires-4 c κs = search needs
 returns : tie.Need-returns
 unfolding listed
 returns c =
+    let component = c .before .before .before .component in
+    let component2 = c .before .before .component2 in
+    let component3 = c .before .component3 in
     λ i.
-    heard _ (c .before .before .before .component .ok) (c .before .before .before .component .ensures) i
-    ∷ heard _ (c .before .before .component2 .ok) (c .before .before .component2 .ensures) i
-    ∷ heard _ (c .before .component3 .ok) (c .before .component3 .ensures) i
+    heard _ (component .ok) (component .ensures) i
+    ∷ heard _ (component2 .ok) (component2 .ensures) i
+    ∷ heard _ (component3 .ok) (component3 .ensures) i
     ∷ heard _ (c .component4 .ok) (c .component4 .ensures) i
     ∷ []
 

@@ -32,9 +32,16 @@ fill-tint-requires c κs = search needs
 
 returns : tie.Need-returns
 returns c =
+    let args = c .before .before .before .before .before .before .before .before .args in
+    let inner = c .before .before .before .before .before .before .inner in
+    let components = c .before .before .before .before .before .components in
+    let unit-part-arg = c .before .before .before .before .unit-part-arg in
+    let unit-part = c .before .before .before .unit-part in
+    let byte = c .before .before .byte in
+    let tint-power = c .before .tint-power in
     c .fill-tint .ensures ∙
-    tint-taken _ (c .before .before .before .before .before .before .before .before .args .n) _ _ _ (toZ w32 (ofZ w32 (value (c .before .before .before .before .before .before .before .before .args .t3) 0))) (c .before .before .before .before .before .before .before .before .args .t3) (c .before .before .before .before .before .before .inner .ensures .0) (c .before .before .before .before .before .components .ensures .0) (came (value (c .before .before .before .before .before .before .before .before .args .t3) 0) (c .before .before .before .before .unit-part-arg .given))
-    _ _ _ (c .before .before .before .unit-part .ensures .0) (c .before .before .byte .ensures .0) (c .before .tint-power .ensures .0)
+    tint-taken _ (args .n) _ _ _ (toZ w32 (ofZ w32 (value (args .t3) 0))) (args .t3) (inner .ensures .0) (components .ensures .0) (came (value (args .t3) 0) (unit-part-arg .given))
+    _ _ _ (unit-part .ensures .0) (byte .ensures .0) (tint-power .ensures .0)
 
 pub tint-spec : {M : Type 1} → statement M
 tint-spec =

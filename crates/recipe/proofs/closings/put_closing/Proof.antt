@@ -39,19 +39,28 @@ enum-known-k : tie.Need-enum-known-k
 enum-known-k c = search needs
 
 put-gray-requires : tie.Need-put-gray-requires
-put-gray-requires c κs = let r = rw (c .before .before .k .given .1) at (c .before .before .before .before .pre) in omega arith
+put-gray-requires c κs =
+    let k = c .before .before .k in
+    let pre = c .before .before .before .before .pre in
+    let r = rw (k .given .1) at pre in omega arith
 
 enum-known-k-2 : tie.Need-enum-known-k-2
 enum-known-k-2 c = search needs
 
 put-rgb-requires : tie.Need-put-rgb-requires
-put-rgb-requires c κs = let r = rw (c .before .before .k2 .given .1) at (c .before .before .before .before .pre) in omega arith
+put-rgb-requires c κs =
+    let k2 = c .before .before .k2 in
+    let pre = c .before .before .before .before .pre in
+    let r = rw (k2 .given .1) at pre in omega arith
 
 enum-known-k-3 : tie.Need-enum-known-k-3
 enum-known-k-3 c = search needs
 
 put-lab-requires : tie.Need-put-lab-requires
-put-lab-requires c κs = let r = rw (c .before .before .k3 .given .1) at (c .before .before .before .before .pre) in omega arith
+put-lab-requires c κs =
+    let k3 = c .before .before .k3 in
+    let pre = c .before .before .before .before .pre in
+    let r = rw (k3 .given .1) at pre in omega arith
 
 returns : tie.Need-returns
 returns c = rw (c .enum-told .given .1)
@@ -78,19 +87,28 @@ same-length-4 : tie.Need-same-length-4
 same-length-4 c = search needs
 
 returns-5 : tie.Need-returns-5
-returns-5 c = c .before .put-gray .ensures ∙ rw (c .before .before .before .before .k .given .1)
+returns-5 c =
+    let put-gray = c .before .put-gray in
+    let k = c .before .before .before .before .k in
+    put-gray .ensures ∙ rw (k .given .1)
 
 same-length-5 : tie.Need-same-length-5
 same-length-5 c = search needs
 
 returns-6 : tie.Need-returns-6
-returns-6 c = c .before .put-rgb .ensures ∙ rw (c .before .before .before .before .k2 .given .1)
+returns-6 c =
+    let put-rgb = c .before .put-rgb in
+    let k2 = c .before .before .before .before .k2 in
+    put-rgb .ensures ∙ rw (k2 .given .1)
 
 same-length-6 : tie.Need-same-length-6
 same-length-6 c = search needs
 
 returns-7 : tie.Need-returns-7
-returns-7 c = c .before .put-lab .ensures ∙ rw (c .before .before .before .before .k3 .given .1)
+returns-7 c =
+    let put-lab = c .before .put-lab in
+    let k3 = c .before .before .before .before .k3 in
+    put-lab .ensures ∙ rw (k3 .given .1)
 
 pub put-closing-spec : {M : Type 1} → statement M
 put-closing-spec =

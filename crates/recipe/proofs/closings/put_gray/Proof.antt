@@ -16,10 +16,13 @@ same-length c = search needs
 
 returns : tie.Need-returns
 returns c =
-    let k = c .before .before .before .before .before .before .args .k in
-    let t = c .before .before .before .before .struct-told .given in
-    c .before .put4 .ensures ∙
-    (λ i. sets (c .before .before .before .before .before .before .args .words .now) (c .before .before .before .before .before .before .args .at) (pos 7 ∷ came (k .xw) (t .0 .1) i ∷ came (k .zw) (t .1 .0 .1) i ∷ came (k .gamma) (t .1 .1 .0 .1) i ∷ []))
+    let args = c .before .before .before .before .before .before .args in
+    let struct-told = c .before .before .before .before .struct-told in
+    let put4 = c .before .put4 in
+    let k = args .k in
+    let t = struct-told .given in
+    put4 .ensures ∙
+    (λ i. sets (args .words .now) (args .at) (pos 7 ∷ came (k .xw) (t .0 .1) i ∷ came (k .zw) (t .1 .0 .1) i ∷ came (k .gamma) (t .1 .1 .0 .1) i ∷ []))
 
 pub put-gray-spec : {M : Type 1} → statement M
 put-gray-spec = tie.close (tie.spec put4-requires same-length returns)

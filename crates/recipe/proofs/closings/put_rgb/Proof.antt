@@ -20,27 +20,53 @@ put3-requires : tie.Need-put3-requires
 put3-requires c κs = search needs
 
 add-put3-2 : tie.Need-add-put3-2
-add-put3-2 c = let p = c .before .before .before .before .before .before .before .before .before .before .before .before .before .pre in let g = c .before .before .before .before .before .before .before .before .before .before .before .before .before .good in omega arith
+add-put3-2 c =
+    let pre = c .before .before .before .before .before .before .before .before .before .before .before .before .before .pre in
+    let good = c .before .before .before .before .before .before .before .before .before .before .before .before .before .good in
+    let p = pre in let g = good in omega arith
 
 put3-requires-2 : tie.Need-put3-requires-2
-put3-requires-2 c κs = omega (arith, c .before .before .before .before .before .before .before .before .before .before .before .before .before .before .before .before .pre, c .before .before .before .before .before .before .before .before .before .before .before .put4 .kept .0, c .before .before .before .before .before .put3 .kept .0)
+put3-requires-2 c κs =
+    let pre = c .before .before .before .before .before .before .before .before .before .before .before .before .before .before .before .before .pre in
+    let put4 = c .before .before .before .before .before .before .before .before .before .before .before .put4 in
+    let put3 = c .before .before .before .before .before .put3 in
+    omega (arith, pre, put4 .kept .0, put3 .kept .0)
 
 add-put3-3 : tie.Need-add-put3-3
-add-put3-3 c = let p = c .before .before .before .before .before .before .before .before .before .before .before .before .before .before .before .before .before .before .before .pre in let g = c .before .before .before .before .before .before .before .before .before .before .before .before .before .before .before .before .before .before .before .good in omega arith
+add-put3-3 c =
+    let pre = c .before .before .before .before .before .before .before .before .before .before .before .before .before .before .before .before .before .before .before .pre in
+    let good = c .before .before .before .before .before .before .before .before .before .before .before .before .before .before .before .before .before .before .before .good in
+    let p = pre in let g = good in omega arith
 
 put3-requires-3 : tie.Need-put3-requires-3
-put3-requires-3 c κs = omega (arith, c .before .before .before .before .before .before .before .before .before .before .before .before .before .before .before .before .before .before .before .before .before .before .pre, c .before .before .before .before .before .before .before .before .before .before .before .before .before .before .before .before .before .put4 .kept .0, c .before .before .before .before .before .before .before .before .before .before .before .put3 .kept .0, c .before .before .before .before .before .put32 .kept .0)
+put3-requires-3 c κs =
+    let pre = c .before .before .before .before .before .before .before .before .before .before .before .before .before .before .before .before .before .before .before .before .before .before .pre in
+    let put4 = c .before .before .before .before .before .before .before .before .before .before .before .before .before .before .before .before .before .put4 in
+    let put3 = c .before .before .before .before .before .before .before .before .before .before .before .put3 in
+    let put32 = c .before .before .before .before .before .put32 in
+    omega (arith, pre, put4 .kept .0, put3 .kept .0, put32 .kept .0)
 
 same-length : tie.Need-same-length
-same-length c = c .before .put33 .kept .0 ∙ (c .before .before .before .before .before .before .before .put32 .kept .0 ∙ (c .before .before .before .before .before .before .before .before .before .before .before .before .before .put3 .kept .0 ∙ c .before .before .before .before .before .before .before .before .before .before .before .before .before .before .before .before .before .before .before .put4 .kept .0))
+same-length c =
+    let put33 = c .before .put33 in
+    let put32 = c .before .before .before .before .before .before .before .put32 in
+    let put3 = c .before .before .before .before .before .before .before .before .before .before .before .before .before .put3 in
+    let put4 = c .before .before .before .before .before .before .before .before .before .before .before .before .before .before .before .before .before .before .before .put4 in
+    put33 .kept .0 ∙ (put32 .kept .0 ∙ (put3 .kept .0 ∙ put4 .kept .0))
 
 returns : tie.Need-returns
 returns c =
-    let k = c .before .before .before .before .before .before .before .before .before .before .before .before .before .before .before .before .before .before .before .before .before .before .before .before .args .k in
-    let t = c .before .before .before .before .before .before .before .before .before .before .before .before .before .before .before .before .before .before .before .before .before .before .struct-told .given in
-    rgb-set (c .before .before .before .before .before .before .before .before .before .before .before .before .before .before .before .before .before .before .before .before .before .before .before .before .args .words .now) (c .before .before .before .before .before .before .before .before .before .before .before .before .before .before .before .before .before .before .before .before .before .before .before .before .args .at) _ _ _ _ _ _ _ _ _ _ _ _ (c .before .before .before .before .before .before .before .before .before .before .before .before .before .before .before .before .before .before .before .put4 .ensures) (c .before .before .before .before .before .before .before .before .before .before .before .before .before .put3 .ensures) (c .before .before .before .before .before .before .before .put32 .ensures) (c .before .put33 .ensures) ∙
+    let args = c .before .before .before .before .before .before .before .before .before .before .before .before .before .before .before .before .before .before .before .before .before .before .before .before .args in
+    let struct-told = c .before .before .before .before .before .before .before .before .before .before .before .before .before .before .before .before .before .before .before .before .before .before .struct-told in
+    let put4 = c .before .before .before .before .before .before .before .before .before .before .before .before .before .before .before .before .before .before .before .put4 in
+    let put3 = c .before .before .before .before .before .before .before .before .before .before .before .before .before .put3 in
+    let put32 = c .before .before .before .before .before .before .before .put32 in
+    let put33 = c .before .put33 in
+    let k = args .k in
+    let t = struct-told .given in
+    rgb-set (args .words .now) (args .at) _ _ _ _ _ _ _ _ _ _ _ _ (put4 .ensures) (put3 .ensures) (put32 .ensures) (put33 .ensures) ∙
     (λ i.
-    sets (c .before .before .before .before .before .before .before .before .before .before .before .before .before .before .before .before .before .before .before .before .before .before .before .before .args .words .now) (c .before .before .before .before .before .before .before .before .before .before .before .before .before .before .before .before .before .before .before .before .before .before .before .before .args .at)
+    sets (args .words .now) (args .at)
     (pos 8
     ∷ came (k .ga) (t .0 .1) i
     ∷ came (k .gb) (t .1 .0 .1) i

@@ -49,15 +49,27 @@ steps-length-inner-requires : (t : ℕ) → steps-length-lts.Need-inner-requires
 steps-length-inner-requires t c κs = search needs
 
 steps-length-steps-length-requires : (t : ℕ) → steps-length-lts.Need-steps-length-requires (claims t) (steps-length-at t) steps-length.Post
-steps-length-steps-length-requires t c κs = (falls-indexed _ _ _ _ (sym (c .before .before .before .kind .ensures) ∙ c .before .before .if1 .taken) (c .inner .ensures .0) (c .before .before .before .before .before .pre .0), tt)
+steps-length-steps-length-requires t c κs =
+    let kind = c .before .before .before .kind in
+    let if1 = c .before .before .if1 in
+    let pre = c .before .before .before .before .before .pre in
+    (falls-indexed _ _ _ _ (sym (kind .ensures) ∙ if1 .taken) (c .inner .ensures .0) (pre .0), tt)
 
 steps-length-add-result : (t : ℕ) → steps-length-lts.Need-add-result (claims t) (steps-length-at t) steps-length.Post
-steps-length-add-result t c = omega (arith, c .before .before .row-length .ensures .1, c .steps-length .ensures .1, rank-le (c .before .before .before .before .before .before .args .page .now) (c .before .inner .result))
+steps-length-add-result t c =
+    let row-length = c .before .before .row-length in
+    let args = c .before .before .before .before .before .before .args in
+    let inner = c .before .inner in
+    omega (arith, row-length .ensures .1, c .steps-length .ensures .1, rank-le (args .page .now) (inner .result))
 
 steps-length-returns : (t : ℕ) → steps-length-lts.Need-returns (claims t) (steps-length-at t) steps-length.Post
 steps-length-returns t c =
-    indexed-sum _ _ _ _ (c .before .inner .ensures .0) (sym (c .before .before .before .before .kind .ensures) ∙ c .before .before .before .if1 .taken) (c .before .before .row-length .ensures .0)
-    _ (c .before .before .row-length .ensures .1) (c .steps-length .ensures .0) (c .steps-length .ensures .1)
+    let inner = c .before .inner in
+    let kind = c .before .before .before .before .kind in
+    let if1 = c .before .before .before .if1 in
+    let row-length = c .before .before .row-length in
+    indexed-sum _ _ _ _ (inner .ensures .0) (sym (kind .ensures) ∙ if1 .taken) (row-length .ensures .0)
+    _ (row-length .ensures .1) (c .steps-length .ensures .0) (c .steps-length .ensures .1)
 
 steps-length-tint-length-requires : (t : ℕ) → steps-length-lts.Need-tint-length-requires (claims t) (steps-length-at t) steps-length.Post
 steps-length-tint-length-requires t c κs = search needs
@@ -66,25 +78,40 @@ steps-length-inner-requires-2 : (t : ℕ) → steps-length-lts.Need-inner-requir
 steps-length-inner-requires-2 t c κs = search needs
 
 steps-length-steps-length-requires-2 : (t : ℕ) → steps-length-lts.Need-steps-length-requires-2 (claims t) (steps-length-at t) steps-length.Post
-steps-length-steps-length-requires-2 t c κs = (falls-separation _ _ _ _ (sym (c .before .before .before .before .kind .ensures) ∙ c .before .before .if2 .taken) (c .inner2 .ensures .0) (c .before .before .before .before .before .before .pre .0), tt)
+steps-length-steps-length-requires-2 t c κs =
+    let kind = c .before .before .before .before .kind in
+    let if2 = c .before .before .if2 in
+    let pre = c .before .before .before .before .before .before .pre in
+    (falls-separation _ _ _ _ (sym (kind .ensures) ∙ if2 .taken) (c .inner2 .ensures .0) (pre .0), tt)
 
 steps-length-add-result-2 : (t : ℕ) → steps-length-lts.Need-add-result-2 (claims t) (steps-length-at t) steps-length.Post
-steps-length-add-result-2 t c = omega (arith, c .before .before .tint-length .ensures .1, c .steps-length2 .ensures .1, rank-le (c .before .before .before .before .before .before .before .args .page .now) (c .before .inner2 .result))
+steps-length-add-result-2 t c =
+    let tint-length = c .before .before .tint-length in
+    let args = c .before .before .before .before .before .before .before .args in
+    let inner2 = c .before .inner2 in
+    omega (arith, tint-length .ensures .1, c .steps-length2 .ensures .1, rank-le (args .page .now) (inner2 .result))
 
 steps-length-returns-2 : (t : ℕ) → steps-length-lts.Need-returns-2 (claims t) (steps-length-at t) steps-length.Post
 steps-length-returns-2 t c =
-    separation-sum _ _ _ _ (c .before .inner2 .ensures .0) (sym (c .before .before .before .before .before .kind .ensures) ∙ c .before .before .before .if2 .taken) (c .before .before .tint-length .ensures .0)
-    _ (c .before .before .tint-length .ensures .1) (c .steps-length2 .ensures .0) (c .steps-length2 .ensures .1)
+    let inner2 = c .before .inner2 in
+    let kind = c .before .before .before .before .before .kind in
+    let if2 = c .before .before .before .if2 in
+    let tint-length = c .before .before .tint-length in
+    separation-sum _ _ _ _ (inner2 .ensures .0) (sym (kind .ensures) ∙ if2 .taken) (tint-length .ensures .0)
+    _ (tint-length .ensures .1) (c .steps-length2 .ensures .0) (c .steps-length2 .ensures .1)
 
 steps-length-ends-length-requires : (t : ℕ) → steps-length-lts.Need-ends-length-requires (claims t) (steps-length-at t) steps-length.Post
 steps-length-ends-length-requires t c κs = search needs
 
 steps-length-returns-3 : (t : ℕ) → steps-length-lts.Need-returns-3 (claims t) (steps-length-at t) steps-length.Post
-steps-length-returns-3 t c = (
-  c .ends-length .ensures .0 ∙
-      sym (ap length (steps-plain _ _ (λ z. c .before .before .if1 .left (c .before .before .before .kind .ensures ∙ z)) (λ z. c .before .if2 .left (c .before .before .before .kind .ensures ∙ z)))),
-  omega (arith, c .ends-length .ensures .1),
-)
+steps-length-returns-3 t c =
+    let if1 = c .before .before .if1 in
+    let kind = c .before .before .before .kind in
+    let if2 = c .before .if2 in (
+      c .ends-length .ensures .0 ∙
+          sym (ap length (steps-plain _ _ (λ z. if1 .left (kind .ensures ∙ z)) (λ z. if2 .left (kind .ensures ∙ z)))),
+      omega (arith, c .ends-length .ensures .1),
+    )
 
 pub +steps-length-spec : {M : Type 1} → statement M
 +steps-length-spec = close μ-steps-length λ t. steps-length-lts.spec (claims t)

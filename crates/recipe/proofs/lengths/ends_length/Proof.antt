@@ -23,10 +23,12 @@ add-result : tie.Need-add-result
 add-result c = search needs
 
 returns : tie.Need-returns
-returns c = (
-  ap (λ (j : ℕ). 4 * c .before .before .components .result + j) (c .closing-length .ensures .0) ∙ sym (ends-length _ _ _ (c .before .before .components .ensures .0) (c .before .closing-at .ensures)),
-  omega arith,
-)
+returns c =
+    let components = c .before .before .components in
+    let closing-at = c .before .closing-at in (
+      ap (λ (j : ℕ). 4 * components .result + j) (c .closing-length .ensures .0) ∙ sym (ends-length _ _ _ (components .ensures .0) (closing-at .ensures)),
+      omega arith,
+    )
 
 pub ends-length-spec : {M : Type 1} → statement M
 ends-length-spec =

@@ -26,10 +26,12 @@ add-result-2 : tie.Need-add-result-2
 add-result-2 c = omega (arith, few-entries (c .before .components .result) (c .two .result) (c .before .components .ensures .1) (c .two .ensures .1))
 
 returns : tie.Need-returns
-returns c = (
-  sym (row-length _ _ _ _ (c .before .components .ensures .0) (c .before .before .inner .ensures .0) _ (c .two .ensures .0)),
-  omega (arith, few-entries (c .before .components .result) (c .two .result) (c .before .components .ensures .1) (c .two .ensures .1)),
-)
+returns c =
+    let components = c .before .components in
+    let inner = c .before .before .inner in (
+      sym (row-length _ _ _ _ (components .ensures .0) (inner .ensures .0) _ (c .two .ensures .0)),
+      omega (arith, few-entries (components .result) (c .two .result) (components .ensures .1) (c .two .ensures .1)),
+    )
 
 pub row-length-spec : {M : Type 1} → statement M
 row-length-spec =

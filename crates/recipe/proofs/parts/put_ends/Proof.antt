@@ -11,9 +11,12 @@ components-requires c κs = search needs
 
 put-limits-requires : tie.Need-put-limits-requires
 put-limits-requires c κs =
-    let a = c .before .before .before .args in (
-      c .before .components .ensures .1,
-      ends-room (spaceAt (a .page .now) (a .n)) _ _ (c .before .components .ensures .0) refl (a .at) (a .words .now) (a .words .now) (c .before .before .before .pre) refl .0,
+    let args = c .before .before .before .args in
+    let components = c .before .components in
+    let pre = c .before .before .before .pre in
+    let a = args in (
+      components .ensures .1,
+      ends-room (spaceAt (a .page .now) (a .n)) _ _ (components .ensures .0) refl (a .at) (a .words .now) (a .words .now) pre refl .0,
     )
 
 closing-at-requires : tie.Need-closing-at-requires
@@ -30,16 +33,26 @@ add-put-closing c = search needs
 
 put-closing-requires : tie.Need-put-closing-requires
 put-closing-requires c κs =
-    let a = c .before .before .before .before .before .before .before .args in
-    ends-room (spaceAt (a .page .now) (a .n)) _ _ (c .before .before .before .before .before .components .ensures .0) (c .before .closing-at .ensures) (a .at) (a .words .now)
-    (c .before .before .before .put-limits .last .1 .1 .1 .0) (c .before .before .before .before .before .before .before .pre) (c .before .before .before .put-limits .kept .1 .1 .1 .0) .1
+    let args = c .before .before .before .before .before .before .before .args in
+    let components = c .before .before .before .before .before .components in
+    let closing-at = c .before .closing-at in
+    let put-limits = c .before .before .before .put-limits in
+    let pre = c .before .before .before .before .before .before .before .pre in
+    let a = args in
+    ends-room (spaceAt (a .page .now) (a .n)) _ _ (components .ensures .0) (closing-at .ensures) (a .at) (a .words .now)
+    (put-limits .last .1 .1 .1 .0) pre (put-limits .kept .1 .1 .1 .0) .1
 
 same-length : tie.Need-same-length
 same-length c = search needs
 
 returns : tie.Need-returns
 returns c =
-    ends-set (spaceAt (c .before .before .before .before .before .before .before .before .before .args .page .now) (c .before .before .before .before .before .before .before .before .before .args .n)) _ _ (c .before .before .before .before .before .before .before .components .ensures .0) (c .before .before .before .closing-at .ensures) _ _ _ _ (c .before .before .before .before .before .put-limits .ensures) (c .before .put-closing .ensures)
+    let args = c .before .before .before .before .before .before .before .before .before .args in
+    let components = c .before .before .before .before .before .before .before .components in
+    let closing-at = c .before .before .before .closing-at in
+    let put-limits = c .before .before .before .before .before .put-limits in
+    let put-closing = c .before .put-closing in
+    ends-set (spaceAt (args .page .now) (args .n)) _ _ (components .ensures .0) (closing-at .ensures) _ _ _ _ (put-limits .ensures) (put-closing .ensures)
 
 pub put-ends-spec : {M : Type 1} → statement M
 put-ends-spec =

@@ -41,7 +41,9 @@ add-put4 : tie.Need-add-put4 Inv-loop μ-loop
 add-put4 c = search needs
 
 put4-requires : tie.Need-put4-requires Inv-loop μ-loop
-put4-requires c κs = simp (c .before .before .before .before .before .loop .inv .1, length-sets) (omega arith)
+put4-requires c κs =
+    let loop = c .before .before .before .before .before .loop in
+    simp (loop .inv .1, length-sets) (omega arith)
 
 add-k : tie.Need-add-k Inv-loop μ-loop
 add-k c = search needs
@@ -50,17 +52,25 @@ loop-less : tie.Need-loop-less Inv-loop μ-loop
 loop-less c = omega arith
 
 loop-again : tie.Need-loop-again Inv-loop μ-loop
-loop-again c = (
-  omega arith,
-  limits-turn _ _ _ _ (c .before .before .before .before .before .before .before .loop .inv .1) (heard _ (c .before .before .before .before .before .word-of .ok) (c .before .before .before .before .before .word-of .ensures)) (heard _ (c .before .before .before .before .low .ok) (c .before .before .before .before .low .ensures)) (heard _ (c .before .before .before .high .ok) (c .before .before .before .high .ensures))
-      (c .before .put4 .ensures),
-)
+loop-again c =
+    let loop = c .before .before .before .before .before .before .before .loop in
+    let word-of = c .before .before .before .before .before .word-of in
+    let low = c .before .before .before .before .low in
+    let high = c .before .before .before .high in
+    let put4 = c .before .put4 in (
+      omega arith,
+      limits-turn _ _ _ _ (loop .inv .1) (heard _ (word-of .ok) (word-of .ensures)) (heard _ (low .ok) (low .ensures)) (heard _ (high .ok) (high .ensures))
+          (put4 .ensures),
+    )
 
 same-length : tie.Need-same-length Inv-loop μ-loop
 same-length c = ap length (c .before .loop .inv .1) ∙ simp length-sets
 
 returns : tie.Need-returns Inv-loop μ-loop
-returns c = let e : c .before .loop .k ≡ c .before .before .before .args .m = omega arith in c .before .loop .inv .1 ∙ rw e
+returns c =
+    let loop = c .before .loop in
+    let args = c .before .before .before .args in
+    let e : loop .k ≡ args .m = omega arith in loop .inv .1 ∙ rw e
 
 pub put-limits-spec : {M : Type 1} → statement M
 put-limits-spec =

@@ -51,16 +51,21 @@ loop-less c = omega arith
 
 loop-again : tie.Need-loop-again Inv-loop μ-loop
 loop-again c =
-    let a = c .before .before .before .before .args in (
+    let args = c .before .before .before .before .args in
+    let loop = c .before .before .loop in
+    let a = args in (
       omega arith,
-      listed-turn (λ k. numberAt (blockAt (a .page .now) (a .n)) (a .from + 4 * k)) _ _ _ (c .before .before .loop .inv .1) (heard _ (c .number .ok) (c .number .ensures)),
+      listed-turn (λ k. numberAt (blockAt (a .page .now) (a .n)) (a .from + 4 * k)) _ _ _ (loop .inv .1) (heard _ (c .number .ok) (c .number .ensures)),
     )
 
 same-length : tie.Need-same-length Inv-loop μ-loop
 same-length c = ap length (c .before .loop .inv .1) ∙ simp length-sets
 
 returns : tie.Need-returns Inv-loop μ-loop
-returns c = let e : c .before .loop .j ≡ c .before .before .before .args .m = omega arith in c .before .loop .inv .1 ∙ rw e
+returns c =
+    let loop = c .before .loop in
+    let args = c .before .before .before .args in
+    let e : loop .j ≡ args .m = omega arith in loop .inv .1 ∙ rw e
 
 pub put-numbers-spec : {M : Type 1} → statement M
 put-numbers-spec =

@@ -27,7 +27,12 @@ word-of-requires-2 c κs = search needs
 
 put3-requires : tie.Need-put3-requires
 put3-requires c κs =
-    let r = row-fits _ _ _ _ (c .before .before .before .before .components .ensures .0) (c .before .before .before .before .before .inner .ensures .0) _ (c .before .before .before .before .before .before .before .args .words .now) _ (c .before .before .before .two .ensures .0) (c .before .before .before .before .before .before .before .pre .1) in
+    let components = c .before .before .before .before .components in
+    let inner = c .before .before .before .before .before .inner in
+    let args = c .before .before .before .before .before .before .before .args in
+    let two = c .before .before .before .two in
+    let pre = c .before .before .before .before .before .before .before .pre in
+    let r = row-fits _ _ _ _ (components .ensures .0) (inner .ensures .0) _ (args .words .now) _ (two .ensures .0) (pre .1) in
     omega arith
 
 same-length : tie.Need-same-length
@@ -35,28 +40,44 @@ same-length c = search needs
 
 returns : tie.Need-returns
 returns c =
-    row-none _ _ _ _ (c .before .before .before .before .before .before .before .components .ensures .0) (c .before .before .before .before .before .before .before .before .inner .ensures .0) _ _ _ (c .before .before .before .before .before .before .two .ensures .0) _ _ _
-    (heard _ (c .before .before .before .before .word-of .ok) (c .before .before .before .before .word-of .ensures)) (heard _ (c .before .before .before .word-of2 .ok) (c .before .before .before .word-of2 .ensures)) (c .before .before .put3 .ensures) (c .if1 .taken)
+    let components = c .before .before .before .before .before .before .before .components in
+    let inner = c .before .before .before .before .before .before .before .before .inner in
+    let two = c .before .before .before .before .before .before .two in
+    let word-of = c .before .before .before .before .word-of in
+    let word-of2 = c .before .before .before .word-of2 in
+    let put3 = c .before .before .put3 in
+    row-none _ _ _ _ (components .ensures .0) (inner .ensures .0) _ _ _ (two .ensures .0) _ _ _
+    (heard _ (word-of .ok) (word-of .ensures)) (heard _ (word-of2 .ok) (word-of2 .ensures)) (put3 .ensures) (c .if1 .taken)
 
 add-put-table : tie.Need-add-put-table
 add-put-table c = search needs
 
 mul-put-table : tie.Need-mul-put-table
-mul-put-table c = omega (arith, few-entries (c .before .before .before .before .before .before .before .components .result) (c .before .before .before .before .before .before .two .result) (c .before .before .before .before .before .before .before .components .ensures .1) (c .before .before .before .before .before .before .two .ensures .1))
+mul-put-table c =
+    let components = c .before .before .before .before .before .before .before .components in
+    let two = c .before .before .before .before .before .before .two in
+    omega (arith, few-entries (components .result) (two .result) (components .ensures .1) (two .ensures .1))
 
 add-put-table-2 : tie.Need-add-put-table-2
 add-put-table-2 c = search needs
 
 put-table-requires : tie.Need-put-table-requires
 put-table-requires c κs =
-    let r = row-fits _ _ _ _ (c .before .before .before .before .before .before .before .before .components .ensures .0) (c .before .before .before .before .before .before .before .before .before .inner .ensures .0) _ (c .before .before .before .before .before .before .before .before .before .before .before .args .words .now) _ (c .before .before .before .before .before .before .before .two .ensures .0) (c .before .before .before .before .before .before .before .before .before .before .before .pre .1) in
-    let e : length (c .before .before .before .put3 .last .0) ≡ length (c .before .before .before .before .before .before .before .before .before .before .before .args .words .now) = c .before .before .before .put3 .kept .0 in
-    let some : 1 ≤ c .before .before .before .before .before .before .before .before .components .result = omega (arith, c .before .if1 .left) in (
-      c .before .before .before .before .before .before .before .before .before .before .before .pre .0,
-      few-entries _ _ (c .before .before .before .before .before .before .before .before .components .ensures .1) (c .before .before .before .before .before .before .before .two .ensures .1),
+    let components = c .before .before .before .before .before .before .before .before .components in
+    let inner = c .before .before .before .before .before .before .before .before .before .inner in
+    let args = c .before .before .before .before .before .before .before .before .before .before .before .args in
+    let two = c .before .before .before .before .before .before .before .two in
+    let pre = c .before .before .before .before .before .before .before .before .before .before .before .pre in
+    let put3 = c .before .before .before .put3 in
+    let if1 = c .before .if1 in
+    let r = row-fits _ _ _ _ (components .ensures .0) (inner .ensures .0) _ (args .words .now) _ (two .ensures .0) (pre .1) in
+    let e : length (put3 .last .0) ≡ length (args .words .now) = put3 .kept .0 in
+    let some : 1 ≤ components .result = omega (arith, if1 .left) in (
+      pre .0,
+      few-entries _ _ (components .ensures .1) (two .ensures .1),
       omega arith,
       some,
-      c .before .before .before .before .before .before .before .before .components .ensures .0,
+      components .ensures .0,
     )
 
 same-length-2 : tie.Need-same-length-2
@@ -64,8 +85,15 @@ same-length-2 c = search needs
 
 returns-2 : tie.Need-returns-2
 returns-2 c =
-    row-set _ _ _ _ (c .before .before .before .before .before .before .before .before .before .before .components .ensures .0) (c .before .before .before .before .before .before .before .before .before .before .before .inner .ensures .0) _ _ _ (c .before .before .before .before .before .before .before .before .before .two .ensures .0) _ _ _
-    (heard _ (c .before .before .before .before .before .before .before .word-of .ok) (c .before .before .before .before .before .before .before .word-of .ensures)) (heard _ (c .before .before .before .before .before .before .word-of2 .ok) (c .before .before .before .before .before .before .word-of2 .ensures)) (c .before .before .before .before .before .put3 .ensures) _ (c .before .put-table .ensures)
+    let components = c .before .before .before .before .before .before .before .before .before .before .components in
+    let inner = c .before .before .before .before .before .before .before .before .before .before .before .inner in
+    let two = c .before .before .before .before .before .before .before .before .before .two in
+    let word-of = c .before .before .before .before .before .before .before .word-of in
+    let word-of2 = c .before .before .before .before .before .before .word-of2 in
+    let put3 = c .before .before .before .before .before .put3 in
+    let put-table = c .before .put-table in
+    row-set _ _ _ _ (components .ensures .0) (inner .ensures .0) _ _ _ (two .ensures .0) _ _ _
+    (heard _ (word-of .ok) (word-of .ensures)) (heard _ (word-of2 .ok) (word-of2 .ensures)) (put3 .ensures) _ (put-table .ensures)
 
 pub put-row-spec : {M : Type 1} → statement M
 put-row-spec =

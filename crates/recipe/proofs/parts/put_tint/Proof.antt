@@ -26,7 +26,11 @@ word-of-requires-2 c κs = search needs
 
 put3-requires : tie.Need-put3-requires
 put3-requires c κs =
-    let r = tint-fits _ _ _ _ (c .before .before .before .before .components .ensures .0) (c .before .before .before .before .before .inner .ensures .0) _ (c .before .before .before .before .before .before .before .args .words .now) (c .before .before .before .before .before .before .before .pre) in
+    let components = c .before .before .before .before .components in
+    let inner = c .before .before .before .before .before .inner in
+    let args = c .before .before .before .before .before .before .before .args in
+    let pre = c .before .before .before .before .before .before .before .pre in
+    let r = tint-fits _ _ _ _ (components .ensures .0) (inner .ensures .0) _ (args .words .now) pre in
     omega arith
 
 add-put-numbers : tie.Need-add-put-numbers
@@ -34,9 +38,14 @@ add-put-numbers c = search needs
 
 put-numbers-requires : tie.Need-put-numbers-requires
 put-numbers-requires c κs =
-    let r = tint-fits _ _ _ _ (c .before .before .before .before .before .before .before .components .ensures .0) (c .before .before .before .before .before .before .before .before .inner .ensures .0) _ (c .before .before .before .before .before .before .before .before .before .before .args .words .now) (c .before .before .before .before .before .before .before .before .before .before .pre) in
-    let e : length (c .before .before .put3 .last .0) ≡ length (c .before .before .before .before .before .before .before .before .before .before .args .words .now) = c .before .before .put3 .kept .0 in
-    (c .before .before .before .before .before .before .before .components .ensures .1, omega arith, omega arith)
+    let components = c .before .before .before .before .before .before .before .components in
+    let inner = c .before .before .before .before .before .before .before .before .inner in
+    let args = c .before .before .before .before .before .before .before .before .before .before .args in
+    let pre = c .before .before .before .before .before .before .before .before .before .before .pre in
+    let put3 = c .before .before .put3 in
+    let r = tint-fits _ _ _ _ (components .ensures .0) (inner .ensures .0) _ (args .words .now) pre in
+    let e : length (put3 .last .0) ≡ length (args .words .now) = put3 .kept .0 in
+    (components .ensures .1, omega arith, omega arith)
 
 add-put-numbers-2 : tie.Need-add-put-numbers-2
 add-put-numbers-2 c = search needs
@@ -49,18 +58,32 @@ add-put-numbers-3 c = search needs
 
 put-numbers-requires-2 : tie.Need-put-numbers-requires-2
 put-numbers-requires-2 c κs =
-    let r = tint-fits _ _ _ _ (c .before .before .before .before .before .before .before .before .before .before .components .ensures .0) (c .before .before .before .before .before .before .before .before .before .before .before .inner .ensures .0) _ (c .before .before .before .before .before .before .before .before .before .before .before .before .before .args .words .now) (c .before .before .before .before .before .before .before .before .before .before .before .before .before .pre) in
-    let e : length (c .before .before .before .before .before .put3 .last .0) ≡ length (c .before .before .before .before .before .before .before .before .before .before .before .before .before .args .words .now) = c .before .before .before .before .before .put3 .kept .0 in
-    (c .before .before .before .before .before .before .before .before .before .before .components .ensures .1, omega arith, omega (arith, c .before .before .put-numbers .kept .1 .1 .1 .1 .0))
+    let components = c .before .before .before .before .before .before .before .before .before .before .components in
+    let inner = c .before .before .before .before .before .before .before .before .before .before .before .inner in
+    let args = c .before .before .before .before .before .before .before .before .before .before .before .before .before .args in
+    let pre = c .before .before .before .before .before .before .before .before .before .before .before .before .before .pre in
+    let put3 = c .before .before .before .before .before .put3 in
+    let put-numbers = c .before .before .put-numbers in
+    let r = tint-fits _ _ _ _ (components .ensures .0) (inner .ensures .0) _ (args .words .now) pre in
+    let e : length (put3 .last .0) ≡ length (args .words .now) = put3 .kept .0 in
+    (components .ensures .1, omega arith, omega (arith, put-numbers .kept .1 .1 .1 .1 .0))
 
 same-length : tie.Need-same-length
 same-length c = search needs
 
 returns : tie.Need-returns
 returns c =
-    tint-set _ _ _ _ (c .before .before .before .before .before .before .before .before .before .before .before .before .components .ensures .0) (c .before .before .before .before .before .before .before .before .before .before .before .before .before .inner .ensures .0) _ _ _ _ _ _ _
-    (heard _ (c .before .before .before .before .before .before .before .before .before .before .word-of .ok) (c .before .before .before .before .before .before .before .before .before .before .word-of .ensures ∙ ap pos (c .before .before .before .before .before .before .before .before .before .before .before .byte .ensures .0))) (heard _ (c .before .before .before .before .before .before .before .before .word-of2 .ok) (c .before .before .before .before .before .before .before .before .word-of2 .ensures))
-    (c .before .before .before .before .before .before .before .put3 .ensures) (c .before .before .before .before .put-numbers .ensures) (c .before .put-numbers2 .ensures)
+    let components = c .before .before .before .before .before .before .before .before .before .before .before .before .components in
+    let inner = c .before .before .before .before .before .before .before .before .before .before .before .before .before .inner in
+    let word-of = c .before .before .before .before .before .before .before .before .before .before .word-of in
+    let byte = c .before .before .before .before .before .before .before .before .before .before .before .byte in
+    let word-of2 = c .before .before .before .before .before .before .before .before .word-of2 in
+    let put3 = c .before .before .before .before .before .before .before .put3 in
+    let put-numbers = c .before .before .before .before .put-numbers in
+    let put-numbers2 = c .before .put-numbers2 in
+    tint-set _ _ _ _ (components .ensures .0) (inner .ensures .0) _ _ _ _ _ _ _
+    (heard _ (word-of .ok) (word-of .ensures ∙ ap pos (byte .ensures .0))) (heard _ (word-of2 .ok) (word-of2 .ensures))
+    (put3 .ensures) (put-numbers .ensures) (put-numbers2 .ensures)
 
 pub put-tint-spec : {M : Type 1} → statement M
 put-tint-spec =

@@ -40,8 +40,12 @@ put-steps-kind-requires t c κs = search needs
 
 put-steps-put-row-requires : (t : ℕ) → put-steps-lts.Need-put-row-requires (claims t) (put-steps-at t) put-steps.Post
 put-steps-put-row-requires t c κs =
-    let k = sym (c .before .before .kind .ensures) ∙ c .before .if1 .taken in
-    (block-indexed _ _ k, indexed-head _ _ _ (c .before .before .before .before .args .words .now) (c .before .before .before .before .pre .1) k)
+    let kind = c .before .before .kind in
+    let if1 = c .before .if1 in
+    let args = c .before .before .before .before .args in
+    let pre = c .before .before .before .before .pre in
+    let k = sym (kind .ensures) ∙ if1 .taken in
+    (block-indexed _ _ k, indexed-head _ _ _ (args .words .now) (pre .1) k)
 
 put-steps-inner-requires : (t : ℕ) → put-steps-lts.Need-inner-requires (claims t) (put-steps-at t) put-steps.Post
 put-steps-inner-requires t c κs = search needs
@@ -57,9 +61,15 @@ put-steps-add-put-steps t c = search needs
 
 put-steps-put-steps-requires : (t : ℕ) → put-steps-lts.Need-put-steps-requires (claims t) (put-steps-at t) put-steps.Post
 put-steps-put-steps-requires t c κs =
-    let k = sym (c .before .before .before .before .before .before .before .kind .ensures) ∙ c .before .before .before .before .before .before .if1 .taken in (
-      falls-indexed _ _ _ _ k (c .before .before .inner .ensures .0) (c .before .before .before .before .before .before .before .before .before .pre .0),
-      indexed-room _ _ _ _ (c .before .before .inner .ensures .0) k (c .row-length .ensures .0) _ (c .before .before .before .before .before .before .before .before .before .args .words .now) (c .before .before .before .before .put-row .last .1 .1 .0) (c .before .before .before .before .before .before .before .before .before .pre .1) (c .before .before .before .before .put-row .kept .1 .1 .0),
+    let kind = c .before .before .before .before .before .before .before .kind in
+    let if1 = c .before .before .before .before .before .before .if1 in
+    let inner = c .before .before .inner in
+    let pre = c .before .before .before .before .before .before .before .before .before .pre in
+    let args = c .before .before .before .before .before .before .before .before .before .args in
+    let put-row = c .before .before .before .before .put-row in
+    let k = sym (kind .ensures) ∙ if1 .taken in (
+      falls-indexed _ _ _ _ k (inner .ensures .0) (pre .0),
+      indexed-room _ _ _ _ (inner .ensures .0) k (c .row-length .ensures .0) _ (args .words .now) (put-row .last .1 .1 .0) (pre .1) (put-row .kept .1 .1 .0),
     )
 
 put-steps-same-length : (t : ℕ) → put-steps-lts.Need-same-length (claims t) (put-steps-at t) put-steps.Post
@@ -67,10 +77,21 @@ put-steps-same-length t c = search needs
 
 put-steps-returns : (t : ℕ) → put-steps-lts.Need-returns (claims t) (put-steps-at t) put-steps.Post
 put-steps-returns t c =
-    indexed-set _ _ _ _ (c .before .before .before .before .inner .ensures .0) (sym (c .before .before .before .before .before .before .before .before .before .kind .ensures) ∙ c .before .before .before .before .before .before .before .before .if1 .taken) (c .before .before .row-length .ensures .0) _ _ _ _ (c .before .before .before .before .before .before .put-row .ensures) (c .before .put-steps .ensures)
+    let inner = c .before .before .before .before .inner in
+    let kind = c .before .before .before .before .before .before .before .before .before .kind in
+    let if1 = c .before .before .before .before .before .before .before .before .if1 in
+    let row-length = c .before .before .row-length in
+    let put-row = c .before .before .before .before .before .before .put-row in
+    let put-steps = c .before .put-steps in
+    indexed-set _ _ _ _ (inner .ensures .0) (sym (kind .ensures) ∙ if1 .taken) (row-length .ensures .0) _ _ _ _ (put-row .ensures) (put-steps .ensures)
 
 put-steps-put-tint-requires : (t : ℕ) → put-steps-lts.Need-put-tint-requires (claims t) (put-steps-at t) put-steps.Post
-put-steps-put-tint-requires t c κs = separation-head _ _ _ (c .before .before .before .before .before .args .words .now) (c .before .before .before .before .before .pre .1) (sym (c .before .before .before .kind .ensures) ∙ c .before .if2 .taken)
+put-steps-put-tint-requires t c κs =
+    let args = c .before .before .before .before .before .args in
+    let pre = c .before .before .before .before .before .pre in
+    let kind = c .before .before .before .kind in
+    let if2 = c .before .if2 in
+    separation-head _ _ _ (args .words .now) (pre .1) (sym (kind .ensures) ∙ if2 .taken)
 
 put-steps-inner-requires-2 : (t : ℕ) → put-steps-lts.Need-inner-requires-2 (claims t) (put-steps-at t) put-steps.Post
 put-steps-inner-requires-2 t c κs = search needs
@@ -86,9 +107,15 @@ put-steps-add-put-steps-2 t c = search needs
 
 put-steps-put-steps-requires-2 : (t : ℕ) → put-steps-lts.Need-put-steps-requires-2 (claims t) (put-steps-at t) put-steps.Post
 put-steps-put-steps-requires-2 t c κs =
-    let k = sym (c .before .before .before .before .before .before .before .before .kind .ensures) ∙ c .before .before .before .before .before .before .if2 .taken in (
-      falls-separation _ _ _ _ k (c .before .before .inner2 .ensures .0) (c .before .before .before .before .before .before .before .before .before .before .pre .0),
-      separation-room _ _ _ _ (c .before .before .inner2 .ensures .0) k (c .tint-length .ensures .0) _ (c .before .before .before .before .before .before .before .before .before .before .args .words .now) (c .before .before .before .before .put-tint .last .1 .1 .0) (c .before .before .before .before .before .before .before .before .before .before .pre .1) (c .before .before .before .before .put-tint .kept .1 .1 .0),
+    let kind = c .before .before .before .before .before .before .before .before .kind in
+    let if2 = c .before .before .before .before .before .before .if2 in
+    let inner2 = c .before .before .inner2 in
+    let pre = c .before .before .before .before .before .before .before .before .before .before .pre in
+    let args = c .before .before .before .before .before .before .before .before .before .before .args in
+    let put-tint = c .before .before .before .before .put-tint in
+    let k = sym (kind .ensures) ∙ if2 .taken in (
+      falls-separation _ _ _ _ k (inner2 .ensures .0) (pre .0),
+      separation-room _ _ _ _ (inner2 .ensures .0) k (c .tint-length .ensures .0) _ (args .words .now) (put-tint .last .1 .1 .0) (pre .1) (put-tint .kept .1 .1 .0),
     )
 
 put-steps-same-length-2 : (t : ℕ) → put-steps-lts.Need-same-length-2 (claims t) (put-steps-at t) put-steps.Post
@@ -96,19 +123,35 @@ put-steps-same-length-2 t c = search needs
 
 put-steps-returns-2 : (t : ℕ) → put-steps-lts.Need-returns-2 (claims t) (put-steps-at t) put-steps.Post
 put-steps-returns-2 t c =
-    separation-set _ _ _ _ (c .before .before .before .before .inner2 .ensures .0) (sym (c .before .before .before .before .before .before .before .before .before .before .kind .ensures) ∙ c .before .before .before .before .before .before .before .before .if2 .taken) (c .before .before .tint-length .ensures .0) _ _ _ _ (c .before .before .before .before .before .before .put-tint .ensures) (c .before .put-steps2 .ensures)
+    let inner2 = c .before .before .before .before .inner2 in
+    let kind = c .before .before .before .before .before .before .before .before .before .before .kind in
+    let if2 = c .before .before .before .before .before .before .before .before .if2 in
+    let tint-length = c .before .before .tint-length in
+    let put-tint = c .before .before .before .before .before .before .put-tint in
+    let put-steps2 = c .before .put-steps2 in
+    separation-set _ _ _ _ (inner2 .ensures .0) (sym (kind .ensures) ∙ if2 .taken) (tint-length .ensures .0) _ _ _ _ (put-tint .ensures) (put-steps2 .ensures)
 
 put-steps-put-ends-requires : (t : ℕ) → put-steps-lts.Need-put-ends-requires (claims t) (put-steps-at t) put-steps.Post
 put-steps-put-ends-requires t c κs =
-    plain-room _ _ _ (c .before .before .before .before .before .args .words .now) (λ z. c .before .before .if1 .left (c .before .before .before .kind .ensures ∙ z)) (λ z. c .before .if2 .left (c .before .before .before .kind .ensures ∙ z)) (c .before .before .before .before .before .pre .1)
+    let args = c .before .before .before .before .before .args in
+    let if1 = c .before .before .if1 in
+    let kind = c .before .before .before .kind in
+    let if2 = c .before .if2 in
+    let pre = c .before .before .before .before .before .pre in
+    plain-room _ _ _ (args .words .now) (λ z. if1 .left (kind .ensures ∙ z)) (λ z. if2 .left (kind .ensures ∙ z)) (pre .1)
 
 put-steps-same-length-3 : (t : ℕ) → put-steps-lts.Need-same-length-3 (claims t) (put-steps-at t) put-steps.Post
 put-steps-same-length-3 t c = search needs
 
 put-steps-returns-3 : (t : ℕ) → put-steps-lts.Need-returns-3 (claims t) (put-steps-at t) put-steps.Post
 put-steps-returns-3 t c =
-    c .before .put-ends .ensures ∙
-    sym (ap (sets (c .before .before .before .before .before .before .before .args .words .now) (c .before .before .before .before .before .before .before .args .at)) (steps-plain _ _ (λ z. c .before .before .before .before .if1 .left (c .before .before .before .before .before .kind .ensures ∙ z)) (λ z. c .before .before .before .if2 .left (c .before .before .before .before .before .kind .ensures ∙ z))))
+    let put-ends = c .before .put-ends in
+    let args = c .before .before .before .before .before .before .before .args in
+    let if1 = c .before .before .before .before .if1 in
+    let kind = c .before .before .before .before .before .kind in
+    let if2 = c .before .before .before .if2 in
+    put-ends .ensures ∙
+    sym (ap (sets (args .words .now) (args .at)) (steps-plain _ _ (λ z. if1 .left (kind .ensures ∙ z)) (λ z. if2 .left (kind .ensures ∙ z))))
 
 pub +put-steps-spec : {M : Type 1} → statement M
 +put-steps-spec = close μ-put-steps λ t. put-steps-lts.spec (claims t)

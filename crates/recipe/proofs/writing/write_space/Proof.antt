@@ -25,7 +25,11 @@ cast-if2 : tie.Need-cast-if2
 cast-if2 c = search needs
 
 returns-2 : tie.Need-returns-2
-returns-2 c = reply-short _ _ _ (c .before .before .before .components .ensures .0) (c .before .before .if1 .left) _ (c .before .steps-length .ensures .0) (c .if2 .taken)
+returns-2 c =
+    let components = c .before .before .before .components in
+    let if1 = c .before .before .if1 in
+    let steps-length = c .before .steps-length in
+    reply-short _ _ _ (components .ensures .0) (if1 .left) _ (steps-length .ensures .0) (c .if2 .taken)
 
 word-of-requires : tie.Need-word-of-requires
 word-of-requires c κs = search needs
@@ -34,15 +38,24 @@ slice-set-from-words : tie.Need-slice-set-from-words
 slice-set-from-words c = search needs
 
 put-steps-requires : tie.Need-put-steps-requires
-put-steps-requires c κs = simp length-set (omega (arith, c .before .before .before .steps-length .ensures .0, c .before .before .if2 .left))
+put-steps-requires c κs =
+    let steps-length = c .before .before .before .steps-length in
+    let if2 = c .before .before .if2 in
+    simp length-set (omega (arith, steps-length .ensures .0, if2 .left))
 
 same-length : tie.Need-same-length
 same-length c = c .before .put-steps .kept .1 .1 .0 ∙ simp length-set
 
 returns-3 : tie.Need-returns-3
 returns-3 c =
-    reply-words _ _ _ (c .before .before .before .before .before .before .before .components .ensures .0) (c .before .before .before .before .before .before .if1 .left) _ (c .before .before .before .before .before .steps-length .ensures .0) _ _
-    (heard _ (c .before .before .before .word-of .ok) (c .before .before .before .word-of .ensures)) (c .before .before .before .before .if2 .left) (c .before .put-steps .ensures)
+    let components = c .before .before .before .before .before .before .before .components in
+    let if1 = c .before .before .before .before .before .before .if1 in
+    let steps-length = c .before .before .before .before .before .steps-length in
+    let word-of = c .before .before .before .word-of in
+    let if2 = c .before .before .before .before .if2 in
+    let put-steps = c .before .put-steps in
+    reply-words _ _ _ (components .ensures .0) (if1 .left) _ (steps-length .ensures .0) _ _
+    (heard _ (word-of .ok) (word-of .ensures)) (if2 .left) (put-steps .ensures)
 
 pub write-space-spec : {M : Type 1} → statement M
 write-space-spec =

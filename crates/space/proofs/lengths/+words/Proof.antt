@@ -56,16 +56,30 @@ words-add-result-2 : (t : ℕ) → words-lts.Need-add-result-2 (claims t) (words
 words-add-result-2 t c = omega (arith, few-entries (c .before .components .result) (c .two .result) (c .before .components .ensures .1) (c .two .ensures .1))
 
 words-words-requires : (t : ℕ) → words-lts.Need-words-requires (claims t) (words-at t) words.Post
-words-words-requires t c κs = (falls-indexed _ _ _ _ (sym (c .before .before .before .before .kind .ensures) ∙ c .before .before .before .if1 .taken) (c .before .before .inner .ensures .0) (c .before .before .before .before .before .before .pre .0), tt)
+words-words-requires t c κs =
+    let kind = c .before .before .before .before .kind in
+    let if1 = c .before .before .before .if1 in
+    let inner = c .before .before .inner in
+    let pre = c .before .before .before .before .before .before .pre in
+    (falls-indexed _ _ _ _ (sym (kind .ensures) ∙ if1 .taken) (inner .ensures .0) (pre .0), tt)
 
 words-add-result-3 : (t : ℕ) → words-lts.Need-add-result-3 (claims t) (words-at t) words.Post
 words-add-result-3 t c =
-    omega (arith, few-entries (c .before .before .components .result) (c .before .two .result) (c .before .before .components .ensures .1) (c .before .two .ensures .1), c .words .ensures .1, rank-le (c .before .before .before .before .before .before .before .args .page .now) (c .before .before .before .inner .result))
+    let components = c .before .before .components in
+    let two = c .before .two in
+    let args = c .before .before .before .before .before .before .before .args in
+    let inner = c .before .before .before .inner in
+    omega (arith, few-entries (components .result) (two .result) (components .ensures .1) (two .ensures .1), c .words .ensures .1, rank-le (args .page .now) (inner .result))
 
 words-returns : (t : ℕ) → words-lts.Need-returns (claims t) (words-at t) words.Post
 words-returns t c =
-    words-indexed _ _ _ _ _ (c .before .before .before .inner .ensures .0) (c .before .before .components .ensures .0) (c .before .before .components .ensures .1) (c .words .ensures .0) (c .words .ensures .1)
-    _ (sym (c .before .before .before .before .before .kind .ensures) ∙ c .before .before .before .before .if1 .taken) (c .before .two .ensures .0) (c .before .two .ensures .1)
+    let inner = c .before .before .before .inner in
+    let components = c .before .before .components in
+    let kind = c .before .before .before .before .before .kind in
+    let if1 = c .before .before .before .before .if1 in
+    let two = c .before .two in
+    words-indexed _ _ _ _ _ (inner .ensures .0) (components .ensures .0) (components .ensures .1) (c .words .ensures .0) (c .words .ensures .1)
+    _ (sym (kind .ensures) ∙ if1 .taken) (two .ensures .0) (two .ensures .1)
 
 words-inner-requires-2 : (t : ℕ) → words-lts.Need-inner-requires-2 (claims t) (words-at t) words.Post
 words-inner-requires-2 t c κs = search needs
@@ -80,25 +94,41 @@ words-add-result-4 : (t : ℕ) → words-lts.Need-add-result-4 (claims t) (words
 words-add-result-4 t c = search needs
 
 words-words-requires-2 : (t : ℕ) → words-lts.Need-words-requires-2 (claims t) (words-at t) words.Post
-words-words-requires-2 t c κs = (falls-separation _ _ _ _ (sym (c .before .before .before .before .kind .ensures) ∙ c .before .before .if2 .taken) (c .before .inner2 .ensures .0) (c .before .before .before .before .before .before .pre .0), tt)
+words-words-requires-2 t c κs =
+    let kind = c .before .before .before .before .kind in
+    let if2 = c .before .before .if2 in
+    let inner2 = c .before .inner2 in
+    let pre = c .before .before .before .before .before .before .pre in
+    (falls-separation _ _ _ _ (sym (kind .ensures) ∙ if2 .taken) (inner2 .ensures .0) (pre .0), tt)
 
 words-add-result-5 : (t : ℕ) → words-lts.Need-add-result-5 (claims t) (words-at t) words.Post
-words-add-result-5 t c = omega (arith, c .before .components2 .ensures .1, c .words2 .ensures .1, rank-le (c .before .before .before .before .before .before .before .args .page .now) (c .before .before .inner2 .result))
+words-add-result-5 t c =
+    let components2 = c .before .components2 in
+    let args = c .before .before .before .before .before .before .before .args in
+    let inner2 = c .before .before .inner2 in
+    omega (arith, components2 .ensures .1, c .words2 .ensures .1, rank-le (args .page .now) (inner2 .result))
 
 words-returns-2 : (t : ℕ) → words-lts.Need-returns-2 (claims t) (words-at t) words.Post
 words-returns-2 t c =
-    words-separation _ _ _ _ _ (c .before .before .inner2 .ensures .0) (c .before .components2 .ensures .0) (c .before .components2 .ensures .1) (c .words2 .ensures .0) (c .words2 .ensures .1)
-    (sym (c .before .before .before .before .before .kind .ensures) ∙ c .before .before .before .if2 .taken)
+    let inner2 = c .before .before .inner2 in
+    let components2 = c .before .components2 in
+    let kind = c .before .before .before .before .before .kind in
+    let if2 = c .before .before .before .if2 in
+    words-separation _ _ _ _ _ (inner2 .ensures .0) (components2 .ensures .0) (components2 .ensures .1) (c .words2 .ensures .0) (c .words2 .ensures .1)
+    (sym (kind .ensures) ∙ if2 .taken)
 
 words-plain-words-requires : (t : ℕ) → words-lts.Need-plain-words-requires (claims t) (words-at t) words.Post
 words-plain-words-requires t c κs = search needs
 
 words-returns-3 : (t : ℕ) → words-lts.Need-returns-3 (claims t) (words-at t) words.Post
-words-returns-3 t c = (
-  c .plain-words .ensures .0 ∙
-      sym (ap wordsOf (at-plain _ _ (λ z. c .before .before .if1 .left (c .before .before .before .kind .ensures ∙ z)) (λ z. c .before .if2 .left (c .before .before .before .kind .ensures ∙ z)))),
-  omega (arith, c .plain-words .ensures .1),
-)
+words-returns-3 t c =
+    let if1 = c .before .before .if1 in
+    let kind = c .before .before .before .kind in
+    let if2 = c .before .if2 in (
+      c .plain-words .ensures .0 ∙
+          sym (ap wordsOf (at-plain _ _ (λ z. if1 .left (kind .ensures ∙ z)) (λ z. if2 .left (kind .ensures ∙ z)))),
+      omega (arith, c .plain-words .ensures .1),
+    )
 
 pub +words-spec : {M : Type 1} → statement M
 +words-spec = close μ-words λ t. words-lts.spec (claims t)

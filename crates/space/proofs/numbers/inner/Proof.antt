@@ -16,17 +16,23 @@ rank-requires-2 c κs = search needs
 
 returns : tie.Need-returns
 unfolding innerAt
-returns c = (
-  simp (← (c .before .before .before .two .ensures .0), ← (c .before .before .rank .ensures), ← (c .before .rank2 .ensures), lt-ltb _ _ (c .if1 .taken)),
-  search needs,
-)
+returns c =
+    let two = c .before .before .before .two in
+    let rank = c .before .before .rank in
+    let rank2 = c .before .rank2 in (
+      simp (← (two .ensures .0), ← (rank .ensures), ← (rank2 .ensures), lt-ltb _ _ (c .if1 .taken)),
+      search needs,
+    )
 
 returns-2 : tie.Need-returns-2
 unfolding innerAt
-returns-2 c = (
-  simp (← (c .before .before .before .two .ensures .0), ← (c .before .before .rank .ensures), ← (c .before .rank2 .ensures), le-ltb _ _ (c .if1 .left)),
-  search needs,
-)
+returns-2 c =
+    let two = c .before .before .before .two in
+    let rank = c .before .before .rank in
+    let rank2 = c .before .rank2 in (
+      simp (← (two .ensures .0), ← (rank .ensures), ← (rank2 .ensures), le-ltb _ _ (c .if1 .left)),
+      search needs,
+    )
 
 pub inner-spec : {M : Type 1} → statement M
 inner-spec = tie.close (tie.spec two-requires rank-requires rank-requires-2 returns returns-2)

@@ -24,9 +24,13 @@ palette-value-requires c κs = search needs
 returns : tie.Need-returns
 unfolding entryOf
 returns c =
+    let low = c .before .before .low in
+    let high = c .before .high in
+    let palette-byte = c .before .before .before .palette-byte in
+    let pre = c .before .before .before .before .before .pre in
     heard _ (c .palette-value .ok)
     (c .palette-value .ensures ∙
-    simp (heard _ (c .before .before .low .ok) (c .before .before .low .ensures), heard _ (c .before .high .ok) (c .before .high .ensures), c .before .before .before .palette-byte .ensures .0, c .before .before .before .before .before .pre .3))
+    simp (heard _ (low .ok) (low .ensures), heard _ (high .ok) (high .ensures), palette-byte .ensures .0, pre .3))
 
 pub entry-spec : {M : Type 1} → statement M
 entry-spec =

@@ -15,10 +15,12 @@ number-requires-3 c κs = search needs
 
 returns : tie.Need-returns
 returns c =
+    let number = c .before .before .number in
+    let number2 = c .before .number2 in
     λ i.
     record {
-      xw = heard _ (c .before .before .number .ok) (c .before .before .number .ensures) i;
-      zw = heard _ (c .before .number2 .ok) (c .before .number2 .ensures) i;
+      xw = heard _ (number .ok) (number .ensures) i;
+      zw = heard _ (number2 .ok) (number2 .ensures) i;
       gamma = heard _ (c .number3 .ok) (c .number3 .ensures) i;
     }
 

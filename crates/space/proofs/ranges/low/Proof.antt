@@ -18,16 +18,24 @@ number-requires c κs = search needs
 
 returns-2 : tie.Need-returns-2
 returns-2 c =
+    let kind = c .before .before .before .before .kind in
+    let if1 = c .before .before .before .if1 in
+    let if2 = c .before .before .if2 in
+    let if3 = c .before .if3 in
     heard _ (c .number .ok) (c .number .ensures) ∙
-    sym (lab-low _ _ _ (c .before .before .before .before .kind .ensures) (c .before .before .before .if1 .taken) ∙ simp (ne-eqb _ _ (c .before .before .if2 .left), eq-eqb _ _ (c .before .if3 .taken)))
+    sym (lab-low _ _ _ (kind .ensures) (if1 .taken) ∙ simp (ne-eqb _ _ (if2 .left), eq-eqb _ _ (if3 .taken)))
 
 number-requires-2 : tie.Need-number-requires-2
 number-requires-2 c κs = search needs
 
 returns-3 : tie.Need-returns-3
 returns-3 c =
+    let kind = c .before .before .before .before .kind in
+    let if1 = c .before .before .before .if1 in
+    let if2 = c .before .before .if2 in
+    let if3 = c .before .if3 in
     heard _ (c .number2 .ok) (c .number2 .ensures) ∙
-    sym (lab-low _ _ _ (c .before .before .before .before .kind .ensures) (c .before .before .before .if1 .taken) ∙ simp (ne-eqb _ _ (c .before .before .if2 .left), ne-eqb _ _ (c .before .if3 .left)))
+    sym (lab-low _ _ _ (kind .ensures) (if1 .taken) ∙ simp (ne-eqb _ _ (if2 .left), ne-eqb _ _ (if3 .left)))
 
 returns-4 : tie.Need-returns-4
 returns-4 c = sym (low-unit _ _ _ _ (λ z. c .if1 .left (c .before .kind .ensures ∙ z)))

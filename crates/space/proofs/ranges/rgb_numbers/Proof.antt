@@ -42,19 +42,30 @@ number-requires-12 c κs = search needs
 
 returns : tie.Need-returns
 returns c =
+    let number = c .before .before .before .before .before .before .before .before .before .before .before .number in
+    let number2 = c .before .before .before .before .before .before .before .before .before .before .number2 in
+    let number3 = c .before .before .before .before .before .before .before .before .before .number3 in
+    let number4 = c .before .before .before .before .before .before .before .before .number4 in
+    let number5 = c .before .before .before .before .before .before .before .number5 in
+    let number6 = c .before .before .before .before .before .before .number6 in
+    let number7 = c .before .before .before .before .before .number7 in
+    let number8 = c .before .before .before .before .number8 in
+    let number9 = c .before .before .before .number9 in
+    let number10 = c .before .before .number10 in
+    let number11 = c .before .number11 in
     λ i.
     record {
-      ga = heard _ (c .before .before .before .before .before .before .before .before .before .before .before .number .ok) (c .before .before .before .before .before .before .before .before .before .before .before .number .ensures) i;
-      gb = heard _ (c .before .before .before .before .before .before .before .before .before .before .number2 .ok) (c .before .before .before .before .before .before .before .before .before .before .number2 .ensures) i;
-      gc = heard _ (c .before .before .before .before .before .before .before .before .before .number3 .ok) (c .before .before .before .before .before .before .before .before .before .number3 .ensures) i;
-      xa = heard _ (c .before .before .before .before .before .before .before .before .number4 .ok) (c .before .before .before .before .before .before .before .before .number4 .ensures) i;
-      ya = heard _ (c .before .before .before .before .before .before .before .number5 .ok) (c .before .before .before .before .before .before .before .number5 .ensures) i;
-      za = heard _ (c .before .before .before .before .before .before .number6 .ok) (c .before .before .before .before .before .before .number6 .ensures) i;
-      xb = heard _ (c .before .before .before .before .before .number7 .ok) (c .before .before .before .before .before .number7 .ensures) i;
-      yb = heard _ (c .before .before .before .before .number8 .ok) (c .before .before .before .before .number8 .ensures) i;
-      zb = heard _ (c .before .before .before .number9 .ok) (c .before .before .before .number9 .ensures) i;
-      xc = heard _ (c .before .before .number10 .ok) (c .before .before .number10 .ensures) i;
-      yc = heard _ (c .before .number11 .ok) (c .before .number11 .ensures) i;
+      ga = heard _ (number .ok) (number .ensures) i;
+      gb = heard _ (number2 .ok) (number2 .ensures) i;
+      gc = heard _ (number3 .ok) (number3 .ensures) i;
+      xa = heard _ (number4 .ok) (number4 .ensures) i;
+      ya = heard _ (number5 .ok) (number5 .ensures) i;
+      za = heard _ (number6 .ok) (number6 .ensures) i;
+      xb = heard _ (number7 .ok) (number7 .ensures) i;
+      yb = heard _ (number8 .ok) (number8 .ensures) i;
+      zb = heard _ (number9 .ok) (number9 .ensures) i;
+      xc = heard _ (number10 .ok) (number10 .ensures) i;
+      yc = heard _ (number11 .ok) (number11 .ensures) i;
       zc = heard _ (c .number12 .ok) (c .number12 .ensures) i;
     }
 
