@@ -1,0 +1,397 @@
+//! A safe interface to Sktelbaan, a proved library of the colour-space records of PDF
+//! (ISO 32000-1, clause 8.6).
+//!
+//! A page is 1 to 64 blocks of 512 bytes. Its spaces are asked for by their block's number, and the
+//! device spaces by [`DEVICE_GRAY`], [`DEVICE_RGB`] and [`DEVICE_CMYK`]. Components are signed counts
+//! of millionths: 1.0 is 1000000. Any input gets a reply: a page or a recipe may be broken in any way.
+//!
+//! ```
+//! // A page with one space, the CalGray at block 0.
+//! let page = include_bytes!("../../samples/gray.page");
+//! sktelbaan::validate(page)?;
+//!
+//! let white = sktelbaan::evaluate(page, 0, &[1_000_000])?;
+//! assert_eq!(white, sktelbaan::Answer::Xyz([0.9505, 1.0, 1.089]));
+//!
+//! // Its recipe answers the same colours, with no page.
+//! let recipe = sktelbaan::recipe(page, 0)?;
+//! assert_eq!(recipe.len(), 9);
+//! assert_eq!(sktelbaan::run(&recipe, &[1_000_000])?, white);
+//! # Ok::<(), sktelbaan::Refusal>(())
+//! ```
+#![deny(missing_docs)]
+#![deny(unsafe_op_in_unsafe_fn)]
+
+use std::fmt;
+
+mod raw;
+
+/// The number that asks for DeviceGray.
+pub const DEVICE_GRAY: u32 = 0xff01;
+/// The number that asks for DeviceRGB.
+pub const DEVICE_RGB: u32 = 0xff03;
+/// The number that asks for DeviceCMYK.
+pub const DEVICE_CMYK: u32 = 0xff04;
+/// The words of the longest recipe.
+pub const LONGEST: usize = 1045;
+
+/// The answer to a colour: what it is in, and its floats.
+///
+/// Two answers are equal where they are in the same space and every float has the same bits, so 0.0
+/// and -0.0 differ.
+///
+/// ```
+/// use sktelbaan::Answer;
+/// assert_eq!(Answer::Gray(0.5), Answer::Gray(0.5));
+/// assert_ne!(Answer::Gray(0.0), Answer::Gray(-0.0));
+/// assert_ne!(Answer::Rgb([0.0; 3]), Answer::Xyz([0.0; 3]));
+/// ```
+#[derive(Clone, Copy, Debug)]
+pub enum Answer {
+    /// DeviceGray.
+    Gray(f64),
+    /// DeviceRGB: red, green, blue.
+    Rgb([f64; 3]),
+    /// DeviceCMYK: cyan, magenta, yellow, black.
+    Cmyk([f64; 4]),
+    /// CIE X, Y, Z.
+    Xyz([f64; 3]),
+}
+
+impl Answer {
+    /// The floats, in order.
+    pub fn floats(&self) -> &[f64] {
+        match self {
+            Answer::Gray(v) => std::slice::from_ref(v),
+            Answer::Rgb(v) | Answer::Xyz(v) => v,
+            Answer::Cmyk(v) => v,
+        }
+    }
+}
+
+impl PartialEq for Answer {
+    fn eq(&self, other: &Self) -> bool {
+        std::mem::discriminant(self) == std::mem::discriminant(other)
+            && self
+                .floats()
+                .iter()
+                .zip(other.floats())
+                .all(|(a, b)| a.to_bits() == b.to_bits())
+    }
+}
+
+impl Eq for Answer {}
+
+impl fmt::Display for Answer {
+    /// The space and its floats, as `XYZ 0.9505 1 1.089`.
+    fn fmt(&self, f: &mut fmt::Formatter<'_>) -> fmt::Result {
+        f.write_str(match self {
+            Answer::Gray(_) => "Gray",
+            Answer::Rgb(_) => "RGB",
+            Answer::Cmyk(_) => "CMYK",
+            Answer::Xyz(_) => "XYZ",
+        })?;
+        self.floats().iter().try_for_each(|v| write!(f, " {v}"))
+    }
+}
+
+/// Why there is no answer. A refusal leaves all that was lent as it was.
+///
+/// ```
+/// let refusal = sktelbaan::validate(&[0; 100]).unwrap_err();
+/// assert_eq!((refusal.number, refusal.block), (1, 0));
+/// assert_eq!(refusal.to_string(), "refused 1 block 0: the page's length is not 512 x (1..64)");
+/// ```
+#[derive(Clone, Copy, Debug, PartialEq, Eq, Hash)]
+pub struct Refusal {
+    /// The refusal's number, 1 to 11.
+    pub number: u32,
+    /// The block that the refusal is about, 0 for a refusal that is about none.
+    pub block: u32,
+}
+
+impl Refusal {
+    /// When a refusal of this number is given.
+    pub fn meaning(&self) -> &'static str {
+        match self.number {
+            1 => "the page's length is not 512 x (1..64)",
+            2 => "a block's check differs",
+            3 => {
+                "unknown kind, wrong own number, a byte not zero that must be; \
+                 name length not 1..127, or a zero byte in the name"
+            }
+            4 => "a number breaks a clause rule",
+            5 => "a gamma or exponent is beyond the house limit",
+            6 => "a reference to no block of the page, or to a kind not permitted",
+            7 => {
+                "the palette run is short or its spare bytes not zero; a stray palette block; \
+                 C0 or C1 entries past the alternate's count not zero"
+            }
+            8 => "the number asked for is neither a device code nor a block of kinds 1 to 5",
+            9 => "wrong count of components",
+            10 => "lent room shorter than the recipe, or not 512 bytes for a block",
+            11 => "an ill-formed recipe",
+            _ => "not a refusal of this library",
+        }
+    }
+}
+
+impl fmt::Display for Refusal {
+    fn fmt(&self, f: &mut fmt::Formatter<'_>) -> fmt::Result {
+        let Refusal { number, block } = self;
+        write!(f, "refused {number} block {block}: {}", self.meaning())
+    }
+}
+
+impl std::error::Error for Refusal {}
+
+/// What a reply gives, its high half, or the refusal that it is.
+#[inline]
+fn given(reply: u64) -> Result<u32, Refusal> {
+    let high = (reply >> 32) as u32;
+    match reply as u32 {
+        0 => Ok(high),
+        number => Err(Refusal {
+            number,
+            block: high,
+        }),
+    }
+}
+
+/// The answer that a reply and its floats are, or the refusal.
+#[inline]
+fn answer(reply: u64, floats: [f64; 4]) -> Result<Answer, Refusal> {
+    let [a, b, c, _] = floats;
+    Ok(match given(reply)? {
+        1 => Answer::Gray(a),
+        2 => Answer::Rgb([a, b, c]),
+        3 => Answer::Cmyk(floats),
+        4 => Answer::Xyz([a, b, c]),
+        other => unreachable!("an answer is in one of four spaces, not in {other}"),
+    })
+}
+
+/// Validates a page: 512 bytes for each of its 1 to 64 blocks. Refusals 1 to 7.
+///
+/// ```
+/// // A block of zeros is a page with no spaces.
+/// assert!(sktelbaan::validate(&[0; 512]).is_ok());
+///
+/// let mut damaged = [0; 512];
+/// damaged[511] = 1;
+/// assert_eq!(sktelbaan::validate(&damaged).unwrap_err().number, 2);
+/// ```
+#[inline]
+pub fn validate(page: &[u8]) -> Result<(), Refusal> {
+    // SAFETY: the pointer is good for reading as many bytes as are named.
+    let reply = unsafe { raw::sktelbaan_validate(page.as_ptr(), page.len()) };
+    given(reply).map(|_| ())
+}
+
+/// Evaluates a colour of the space at a number of a page, a block's number or a device code.
+/// Refusals 1 to 9. The page is validated each time.
+///
+/// ```
+/// use sktelbaan::{evaluate, Answer, DEVICE_RGB};
+/// // Components are limited to their range: 2.0 to 1.0 here.
+/// let answer = evaluate(&[0; 512], DEVICE_RGB, &[250_000, 2_000_000, -1])?;
+/// assert_eq!(answer, Answer::Rgb([0.25, 1.0, 0.0]));
+/// // No space is at block 0 of this page, and RGB has three components.
+/// assert_eq!(evaluate(&[0; 512], 0, &[0]).unwrap_err().number, 8);
+/// assert_eq!(evaluate(&[0; 512], DEVICE_RGB, &[0]).unwrap_err().number, 9);
+/// # Ok::<(), sktelbaan::Refusal>(())
+/// ```
+#[inline]
+pub fn evaluate(page: &[u8], number: u32, components: &[i32]) -> Result<Answer, Refusal> {
+    let mut floats = [0.0; 4];
+    // SAFETY: page and components are good for reading as many bytes and numbers as are named, and
+    // the four floats, which nothing else refers to, for writing.
+    let reply = unsafe {
+        raw::sktelbaan_evaluate(
+            page.as_ptr(),
+            page.len(),
+            number,
+            components.as_ptr(),
+            components.len(),
+            floats.as_mut_ptr(),
+        )
+    };
+    answer(reply, floats)
+}
+
+/// Writes the recipe of the space at a number of a page into the first of the lent words, and gives
+/// how many words it is; those past it stay as they were. Refusals 1 to 8, and 10 for too few words:
+/// [`LONGEST`] are always enough.
+///
+/// ```
+/// use sktelbaan::{write_recipe, DEVICE_GRAY};
+/// let mut words = [7; 8];
+/// assert_eq!(write_recipe(&[0; 512], DEVICE_GRAY, &mut words)?, 6);
+/// assert_eq!(words, [1, 1, 0, 0, 1_000_000, 4, 7, 7]);
+/// assert_eq!(write_recipe(&[0; 512], DEVICE_GRAY, &mut [0; 5]).unwrap_err().number, 10);
+/// # Ok::<(), sktelbaan::Refusal>(())
+/// ```
+#[inline]
+pub fn write_recipe(page: &[u8], number: u32, words: &mut [i32]) -> Result<usize, Refusal> {
+    // SAFETY: the page is good for reading as many bytes as are named, and the words, which nothing
+    // else refers to, for writing as many as are named.
+    let reply = unsafe {
+        raw::sktelbaan_write_recipe(
+            page.as_ptr(),
+            page.len(),
+            number,
+            words.as_mut_ptr(),
+            words.len(),
+        )
+    };
+    given(reply).map(|count| count as usize)
+}
+
+/// The recipe of the space at a number of a page, as a list of its own. Refusals 1 to 8.
+///
+/// ```
+/// let words = sktelbaan::recipe(&[0; 512], sktelbaan::DEVICE_GRAY)?;
+/// assert_eq!(words, [1, 1, 0, 0, 1_000_000, 4]);
+/// # Ok::<(), sktelbaan::Refusal>(())
+/// ```
+pub fn recipe(page: &[u8], number: u32) -> Result<Vec<i32>, Refusal> {
+    let mut words = [0; LONGEST];
+    let count = write_recipe(page, number, &mut words)?;
+    Ok(words[..count].to_vec())
+}
+
+/// Runs a recipe, just its words, on a colour's components. Refusals 11 and 9.
+///
+/// ```
+/// use sktelbaan::{run, Answer};
+/// // One component, which nothing limits, answered as DeviceGray.
+/// assert_eq!(run(&[1, 4], &[1_500_000])?, Answer::Gray(1.5));
+/// assert_eq!(run(&[1, 4], &[]).unwrap_err().number, 9);
+/// assert_eq!(run(&[1], &[0]).unwrap_err().number, 11);
+/// # Ok::<(), sktelbaan::Refusal>(())
+/// ```
+#[inline]
+pub fn run(words: &[i32], components: &[i32]) -> Result<Answer, Refusal> {
+    let mut floats = [0.0; 4];
+    // SAFETY: words and components are good for reading as many as are named, and the four floats,
+    // which nothing else refers to, for writing.
+    let reply = unsafe {
+        raw::sktelbaan_run(
+            words.as_ptr(),
+            words.len(),
+            components.as_ptr(),
+            components.len(),
+            floats.as_mut_ptr(),
+        )
+    };
+    answer(reply, floats)
+}
+
+#[cfg(test)]
+mod tests {
+    use super::*;
+
+    /// Four floats to tell which are written.
+    const MARKS: [f64; 4] = [-11.0, -12.0, -13.0, -14.0];
+
+    fn run_into(words: &[i32], components: &[i32]) -> (u64, [f64; 4]) {
+        let mut floats = MARKS;
+        // SAFETY: as in `run`.
+        let reply = unsafe {
+            raw::sktelbaan_run(
+                words.as_ptr(),
+                words.len(),
+                components.as_ptr(),
+                components.len(),
+                floats.as_mut_ptr(),
+            )
+        };
+        (reply, floats)
+    }
+
+    fn evaluate_into(page: &[u8], number: u32, components: &[i32]) -> (u64, [f64; 4]) {
+        let mut floats = MARKS;
+        // SAFETY: as in `evaluate`.
+        let reply = unsafe {
+            raw::sktelbaan_evaluate(
+                page.as_ptr(),
+                page.len(),
+                number,
+                components.as_ptr(),
+                components.len(),
+                floats.as_mut_ptr(),
+            )
+        };
+        (reply, floats)
+    }
+
+    #[test]
+    fn run_leaves_the_floats_that_it_does_not_give() {
+        let half = 500_000;
+        let [_, b, c, d] = MARKS;
+        assert_eq!(run_into(&[1, 4], &[half]), (1 << 32, [0.5, b, c, d]));
+        let (reply, floats) = run_into(&[3, 5], &[half; 3]);
+        assert_eq!((reply, floats), (2 << 32, [0.5, 0.5, 0.5, d]));
+        assert_eq!(run_into(&[4, 6], &[half; 4]), (3 << 32, [0.5; 4]));
+        let (reply, floats) = run_into(&[1, 7, 0, 0, 1_000_000], &[half]);
+        assert_eq!((reply, floats), (4 << 32, [0.0, 0.5, 0.0, d]));
+        assert_eq!(run_into(&[1, 4], &[]), (9, MARKS));
+        assert_eq!(run_into(&[1, 4, 4], &[half]), (11, MARKS));
+        assert_eq!(run_into(&[], &[]), (11, MARKS));
+    }
+
+    #[test]
+    fn evaluate_leaves_the_floats_that_it_does_not_give() {
+        let page = [0; 512];
+        let half = 500_000;
+        let [_, b, c, d] = MARKS;
+        for (number, count, expected) in [
+            (DEVICE_GRAY, 1, (1 << 32, [0.5, b, c, d])),
+            (DEVICE_RGB, 3, (2 << 32, [0.5, 0.5, 0.5, d])),
+            (DEVICE_CMYK, 4, (3 << 32, [0.5; 4])),
+            (DEVICE_GRAY, 0, (9, MARKS)),
+            (0, 1, (8, MARKS)),
+        ] {
+            let components = vec![half; count];
+            assert_eq!(evaluate_into(&page, number, &components), expected);
+        }
+        assert_eq!(evaluate_into(&[], DEVICE_GRAY, &[half]), (1, MARKS));
+        let mut second = [0; 1024];
+        second[1023] = 1;
+        let reply = 2 | (1 << 32);
+        assert_eq!(evaluate_into(&second, DEVICE_GRAY, &[]), (reply, MARKS));
+    }
+
+    #[test]
+    fn a_recipe_takes_its_words_and_no_others() {
+        let page = [0; 512];
+        for room in 0..10 {
+            let mut words = vec![7; room];
+            match write_recipe(&page, DEVICE_GRAY, &mut words) {
+                Ok(count) => {
+                    assert!(count == 6 && room >= 6);
+                    assert_eq!(words[..6], [1, 1, 0, 0, 1_000_000, 4]);
+                    assert!(words[6..].iter().all(|word| *word == 7));
+                }
+                Err(refusal) => {
+                    assert!(refusal.number == 10 && refusal.block == 0 && room < 6);
+                    assert!(words.iter().all(|word| *word == 7));
+                }
+            }
+        }
+        assert_eq!(recipe(&page, 0).unwrap_err().number, 8);
+    }
+
+    #[test]
+    fn answers_and_refusals_in_words() {
+        let white = Answer::Xyz([0.9505, 1.0, 1.089]);
+        assert_eq!(white.to_string(), "XYZ 0.9505 1 1.089");
+        assert_eq!(Answer::Gray(-0.0).to_string(), "Gray -0");
+        assert_eq!(Answer::Gray(f64::NAN), Answer::Gray(f64::NAN));
+        assert_ne!(Answer::Cmyk([0.0; 4]), Answer::Cmyk([0.0, 0.0, 0.0, -0.0]));
+        let meanings: std::collections::HashSet<_> = (0..=11)
+            .map(|number| Refusal { number, block: 0 }.meaning())
+            .collect();
+        assert_eq!(meanings.len(), 12);
+    }
+}

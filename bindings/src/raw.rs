@@ -1,0 +1,31 @@
+//! The functions of `include/sktelbaan.h`, as they are. Each takes what it is lent, keeps nothing,
+//! and touches nothing past the lengths that it is given.
+
+extern "C" {
+    pub fn sktelbaan_validate(page: *const u8, page_len: usize) -> u64;
+
+    pub fn sktelbaan_evaluate(
+        page: *const u8,
+        page_len: usize,
+        number: u32,
+        components: *const i32,
+        count: usize,
+        floats: *mut f64,
+    ) -> u64;
+
+    pub fn sktelbaan_write_recipe(
+        page: *const u8,
+        page_len: usize,
+        number: u32,
+        words: *mut i32,
+        words_len: usize,
+    ) -> u64;
+
+    pub fn sktelbaan_run(
+        words: *const i32,
+        words_len: usize,
+        components: *const i32,
+        count: usize,
+        floats: *mut f64,
+    ) -> u64;
+}
