@@ -378,17 +378,49 @@ pub fn random_recipe(rng: &mut Rng) -> Vec<i32> {
             }
         }
     }
+    words.extend(random_closing(rng));
+    words
+}
+
+/// The words of a chance closing step.
+fn random_closing(rng: &mut Rng) -> Vec<i32> {
     match rng.below(6) {
-        0 => words.push(4),
-        1 => words.push(5),
-        2 => words.push(6),
-        3 => words.extend([7, rng.number(), rng.number(), rng.gamma()]),
+        0 => vec![4],
+        1 => vec![5],
+        2 => vec![6],
+        3 => vec![7, rng.number(), rng.number(), rng.gamma()],
         4 => {
-            words.extend([8, rng.gamma(), rng.gamma(), rng.gamma()]);
+            let mut words = vec![8, rng.gamma(), rng.gamma(), rng.gamma()];
             words.extend((0..9).map(|_| rng.number()));
+            words
         }
-        _ => words.extend([9, rng.number(), rng.number()]),
+        _ => vec![9, rng.number(), rng.number()],
     }
+}
+
+/// Chance steps and a closing one of exactly this many words in all, 30 or more, with the input count before them.
+/// It is a recipe where that is no more than the most words that a recipe has.
+pub fn long_recipe(rng: &mut Rng, length: usize) -> Vec<i32> {
+    let closing = random_closing(rng);
+    let steps = length.saturating_sub(closing.len());
+    let mut words = vec![rng.between(1, 4)];
+    // A palette that leaves room for the steps below, as large as may be or smaller.
+    let m = rng.between(1, 4);
+    let most = (steps as i32 - 20) / m - 1;
+    if most >= 0 && !rng.once_in(4) {
+        let h = rng.pick(&[255, 255, 251, 3], 255).min(most);
+        words.extend([2, m, h]);
+        words.extend((0..m * (h + 1)).map(|_| random_component(rng)));
+    }
+    // Tint steps of five words until the rest is limits of four.
+    while steps.saturating_sub(words.len()) % 4 != 0 {
+        words.extend([3, rng.between(1, 4), 1, rng.number(), rng.number()]);
+    }
+    while words.len() < steps {
+        let [lo, hi] = random_range(rng);
+        words.extend([1, rng.between(0, 3), lo, hi]);
+    }
+    words.extend(closing);
     words
 }
 

@@ -7,7 +7,7 @@ use reference::block::{Body, BLOCK, DEVICE_CMYK, DEVICE_GRAY, DEVICE_RGB};
 use reference::cie::Answer;
 use reference::colour::evaluate;
 use reference::generate::{
-    damage, damage_recipe, random_components, random_page, random_recipe, Rng,
+    damage, damage_recipe, long_recipe, random_components, random_page, random_recipe, Rng,
 };
 use reference::numbers::{float_of, ONE};
 use reference::page::{components, spaces, validate};
@@ -464,6 +464,21 @@ fn chance_recipes_run_alike() {
         }
     }
     assert!(answered > 50_000 && ill > 20_000);
+}
+
+#[test]
+fn long_recipes_have_the_words_that_are_asked_for() {
+    let mut rng = Rng::new(13);
+    for length in (30..200).chain(1_000..1_100) {
+        for _ in 0..20 {
+            let words = long_recipe(&mut rng, length);
+            assert_eq!(words.len(), length);
+            let colour = random_components(&mut rng, words[0] as usize);
+            let reply = run(&words, &colour);
+            assert_eq!(reply, slow(&words, &colour).unwrap_or(ELEVEN), "{words:?}");
+            assert_eq!(reply == ELEVEN, length > MOST_WORDS);
+        }
+    }
 }
 
 #[test]
