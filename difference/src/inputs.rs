@@ -1,0 +1,148 @@
+//! Chance input: pages, numbers to be asked for, colours and lists of words.
+
+use reference::block::{BLOCK, DEVICE_CMYK, DEVICE_GRAY, DEVICE_RGB};
+use reference::generate::{
+    damage, damage_recipe, long_recipe, random_component, random_page, random_page_of,
+    random_recipe, repair, Rng,
+};
+use reference::numbers::write_two;
+use reference::page::{components, spaces};
+use reference::recipe::{recipe_of, MOST_WORDS};
+
+/// A page: accepted, broken in one to three ways, or of bytes by chance.
+pub fn page(rng: &mut Rng) -> Vec<u8> {
+    match rng.below(8) {
+        0 | 1 => random_page(rng),
+        2..=5 => broken_page(rng),
+        6 => chance_bytes(rng),
+        _ => chance_blocks(rng),
+    }
+}
+
+/// A page that was accepted before it was broken in one to three ways.
+pub fn broken_page(rng: &mut Rng) -> Vec<u8> {
+    let mut page = random_page(rng);
+    for _ in 0..1 + rng.below(3) {
+        damage(rng, &mut page);
+    }
+    page
+}
+
+/// Bytes by chance, as many as some page or as none.
+fn chance_bytes(rng: &mut Rng) -> Vec<u8> {
+    let length = match rng.below(3) {
+        0 => rng.below(1100),
+        1 => rng.below(6) * BLOCK,
+        _ => rng.below(66 * BLOCK),
+    };
+    (0..length).map(|_| rng.next() as u8).collect()
+}
+
+/// Blocks of bytes by chance, most of them zero, whose own numbers and checks are right.
+fn chance_blocks(rng: &mut Rng) -> Vec<u8> {
+    let count = 1 + rng.below(6);
+    let mut page = vec![0; count * BLOCK];
+    for number in 0..count {
+        let start = number * BLOCK;
+        page[start] = rng.below(8) as u8;
+        write_two(&mut page, start + 2, number as u16);
+        for _ in 0..rng.below(40) {
+            let reach = rng.pick(&[44, 168, 504], 504);
+            page[start + 4 + rng.below(reach)] = rng.next() as u8;
+        }
+        repair(&mut page, number);
+    }
+    page
+}
+
+/// A number to ask a page for: one of its spaces above all, any block, a device code, or neither.
+pub fn number(rng: &mut Rng, page: &[u8]) -> u32 {
+    let count = page.len() / BLOCK;
+    match rng.below(10) {
+        0 => u32::from(rng.pick(&[DEVICE_GRAY, DEVICE_RGB, DEVICE_CMYK], DEVICE_GRAY)),
+        1 => match rng.below(5) {
+            0 => count as u32,
+            1 => 0xff00 + rng.below(8) as u32,
+            2 => rng.below(70) as u32,
+            // A device code or a block's number in the low half alone.
+            3 => rng.next() as u32 & 0xffff_0000 | rng.pick(&[0, 1, 0xff01, 0xff03, 0xff04], 0),
+            _ => rng.pick(&[u32::MAX, 1 << 31, i32::MAX as u32, 64, 1 << 23], 64),
+        },
+        2 => rng.below(count) as u32,
+        _ => {
+            let found: Vec<u32> = spaces(page).map(|(number, _)| number).collect();
+            rng.pick(&found, 0)
+        }
+    }
+}
+
+/// A component: near an edge, or an extreme one.
+fn component(rng: &mut Rng) -> i32 {
+    if rng.once_in(8) {
+        rng.pick(&[i32::MIN, i32::MAX, i32::MIN + 1, i32::MAX - 1, -1, 0], 0)
+    } else {
+        random_component(rng)
+    }
+}
+
+/// A colour of just this many components.
+pub fn colour_of(rng: &mut Rng, count: usize) -> Vec<i32> {
+    (0..count).map(|_| component(rng)).collect()
+}
+
+/// A colour of this many components, and once in a while of another count.
+pub fn colour(rng: &mut Rng, count: usize) -> Vec<i32> {
+    let count = match rng.below(8) {
+        0 => rng.below(7),
+        1 if rng.once_in(16) => rng.below(300),
+        _ => count,
+    };
+    colour_of(rng, count)
+}
+
+/// A colour for the space at a number of a page, its count right or wrong.
+pub fn colour_at(rng: &mut Rng, page: &[u8], number: u32) -> Vec<i32> {
+    let count = components(page, number).unwrap_or(1);
+    colour(rng, count)
+}
+
+/// A page's recipe, as it would be written.
+fn page_recipe(rng: &mut Rng) -> Vec<i32> {
+    let blocks = 1 + rng.below(8);
+    let page = random_page_of(rng, blocks);
+    let number = number(rng, &page);
+    recipe_of(&page, number).unwrap_or_default()
+}
+
+/// A list of words to be run: a recipe, one broken in one to three ways, one about as long as may be,
+/// or words by chance.
+pub fn words(rng: &mut Rng) -> Vec<i32> {
+    let mut words = match rng.below(8) {
+        0..=3 => random_recipe(rng),
+        4 | 5 => page_recipe(rng),
+        6 => {
+            let length = rng.pick(&[1043, 1044, 1045, 1045, 1046, 1047, 2000], MOST_WORDS);
+            long_recipe(rng, length)
+        }
+        _ => return chance_words(rng),
+    };
+    if rng.once_in(2) {
+        for _ in 0..1 + rng.below(3) {
+            damage_recipe(rng, &mut words);
+        }
+    }
+    words
+}
+
+/// Words by chance, small ones above all.
+fn chance_words(rng: &mut Rng) -> Vec<i32> {
+    let length = match rng.below(4) {
+        0 => rng.below(2000),
+        _ => rng.below(24),
+    };
+    let word = |rng: &mut Rng| match rng.below(3) {
+        0 => rng.number(),
+        _ => rng.between(0, 9),
+    };
+    (0..length).map(|_| word(rng)).collect()
+}

@@ -1,0 +1,128 @@
+//! Compares the proved library with the second, independent implementation, floats by their bits.
+//!
+//! Both get the same chance input, broken in many ways; the first difference ends the comparison.
+#![deny(missing_docs)]
+#![forbid(unsafe_code)]
+
+pub mod compare;
+pub mod inputs;
+
+use reference::cie::Answer as Expected;
+use sktelbaan::{Answer, Refusal};
+use std::fmt;
+
+/// What an operation replies.
+pub type Reply<T> = Result<T, Refusal>;
+
+/// The four operations that are compared.
+#[derive(Clone, Copy)]
+pub struct Library {
+    /// Validates a page.
+    pub validate: fn(&[u8]) -> Reply<()>,
+    /// Evaluates a colour of the space at a number of a page.
+    pub evaluate: fn(&[u8], u32, &[i32]) -> Reply<Answer>,
+    /// Writes the recipe of the space at a number of a page.
+    pub write_recipe: fn(&[u8], u32, &mut [i32]) -> Reply<usize>,
+    /// Runs a recipe on a colour.
+    pub run: fn(&[i32], &[i32]) -> Reply<Answer>,
+}
+
+/// The proved library, through its Rust interface.
+pub const PROVED: Library = Library {
+    validate: sktelbaan::validate,
+    evaluate: sktelbaan::evaluate,
+    write_recipe: sktelbaan::write_recipe,
+    run: sktelbaan::run,
+};
+
+/// The second implementation, in the same form.
+pub const REFERENCE: Library = Library {
+    validate: |page| {
+        reference::page::validate(page)
+            .map(|_| ())
+            .map_err(refusal_of)
+    },
+    evaluate: |page, number, components| {
+        answer_of(reference::colour::evaluate(page, number, components))
+    },
+    write_recipe: |page, number, words| {
+        reference::recipe::write(page, number, words).map_err(refusal_of)
+    },
+    run: |words, components| answer_of(reference::runner::run(words, components)),
+};
+
+/// A refusal of the second implementation in the library's form.
+fn refusal_of((number, block): (u32, u32)) -> Refusal {
+    Refusal { number, block }
+}
+
+/// An answer of the second implementation in the library's form.
+fn answer_of(answer: Expected) -> Reply<Answer> {
+    Ok(match answer {
+        Expected::Gray(v) => Answer::Gray(v),
+        Expected::Rgb(v) => Answer::Rgb(v),
+        Expected::Cmyk(v) => Answer::Cmyk(v),
+        Expected::Xyz(v) => Answer::Xyz(v),
+        Expected::Refused { number, block } => return Err(Refusal { number, block }),
+    })
+}
+
+/// One input that the two reply to differently.
+#[derive(Clone, Debug, PartialEq, Eq)]
+pub struct Difference {
+    /// The operation, in a word or two.
+    pub operation: &'static str,
+    /// The input, its bytes and words in hexadecimal.
+    pub input: String,
+    /// What the library replied.
+    pub library: String,
+    /// What the second implementation replied.
+    pub reference: String,
+}
+
+impl fmt::Display for Difference {
+    fn fmt(&self, f: &mut fmt::Formatter<'_>) -> fmt::Result {
+        writeln!(f, "a difference in {}", self.operation)?;
+        writeln!(f, "input: {}", self.input)?;
+        writeln!(f, "library: {}", self.library)?;
+        write!(f, "reference: {}", self.reference)
+    }
+}
+
+impl std::error::Error for Difference {}
+
+/// How many inputs were compared, by what came back.
+#[derive(Clone, Copy, Debug, Default, PartialEq, Eq)]
+pub struct Tally {
+    /// How many were accepted or answered.
+    pub accepted: u64,
+    /// How many were refused, by the refusal's number; the first place stays 0.
+    pub refused: [u64; 12],
+}
+
+impl Tally {
+    /// Counts one reply.
+    fn count<T>(&mut self, reply: &Reply<T>) {
+        match reply {
+            Ok(_) => self.accepted += 1,
+            Err(refusal) => {
+                if let Some(count) = self.refused.get_mut(refusal.number as usize) {
+                    *count += 1;
+                }
+            }
+        }
+    }
+
+    /// How many inputs there were.
+    pub fn total(&self) -> u64 {
+        self.accepted + self.refused.iter().sum::<u64>()
+    }
+}
+
+impl fmt::Display for Tally {
+    fn fmt(&self, f: &mut fmt::Formatter<'_>) -> fmt::Result {
+        write!(f, "{}: accepted {}", self.total(), self.accepted)?;
+        let mut refusals = (0..).zip(&self.refused).filter(|(_, count)| **count > 0);
+        refusals.try_for_each(|(number, count)| write!(f, ", refusal {number} {count}"))
+    }
+}

@@ -1,0 +1,147 @@
+//! The comparisons with small counts: the proved library agrees, and idle or faulty ones are caught.
+
+use difference::{compare, Library, PROVED, REFERENCE};
+use reference::generate::Rng;
+use sktelbaan::{Answer, Refusal};
+
+/// How many pages are compared: fewer where the tests are not built for speed.
+const PAGES: u64 = if cfg!(debug_assertions) { 1_000 } else { 4_000 };
+
+#[test]
+fn pages_are_validated_alike() {
+    let tally = compare::validate(&PROVED, &mut Rng::new(1), PAGES).unwrap();
+    assert_eq!(tally.total(), PAGES);
+    assert!(tally.accepted > PAGES / 8);
+    for number in 1..=7 {
+        assert!(tally.refused[number] > 0, "refusal {number} was never met");
+    }
+}
+
+#[test]
+fn colours_are_evaluated_alike() {
+    let tally = compare::evaluate(&PROVED, &mut Rng::new(2), PAGES).unwrap();
+    assert_eq!(tally.total(), PAGES);
+    assert!(tally.accepted > PAGES / 4);
+    for number in 1..=9 {
+        assert!(tally.refused[number] > 0, "refusal {number} was never met");
+    }
+}
+
+#[test]
+fn recipes_are_written_and_run_alike() {
+    let found = compare::recipes(&PROVED, &mut Rng::new(3), 2 * PAGES).unwrap();
+    assert_eq!(found.run.total(), 2 * PAGES);
+    assert_eq!(found.longest, sktelbaan::LONGEST);
+    assert!(found.run.accepted > PAGES && found.run.refused[9] > 0);
+    for number in (1..=8).chain([10]) {
+        let count = found.written.refused[number];
+        assert!(count > 0, "refusal {number} was never met");
+    }
+}
+
+#[test]
+fn word_lists_are_run_alike() {
+    let tally = compare::run(&PROVED, &mut Rng::new(4), PAGES).unwrap();
+    assert!(tally.total() >= PAGES && tally.accepted > PAGES / 5);
+    assert!(tally.refused[9] > 0 && tally.refused[11] > PAGES / 10);
+}
+
+/// A refusal that is about no block.
+fn refusal(number: u32) -> Refusal {
+    Refusal { number, block: 0 }
+}
+
+/// Whether each comparison finds a difference: validate, evaluate, recipes, run.
+fn caught(library: &Library) -> [bool; 4] {
+    let rng = &mut Rng::new(5);
+    [
+        compare::validate(library, rng, 300).is_err(),
+        compare::evaluate(library, rng, 1_000).is_err(),
+        compare::recipes(library, rng, 400).is_err(),
+        compare::run(library, rng, 1_000).is_err(),
+    ]
+}
+
+#[test]
+fn the_reference_agrees_with_itself() {
+    assert_eq!(caught(&REFERENCE), [false; 4]);
+}
+
+#[test]
+fn idle_libraries_are_caught() {
+    let refusing = Library {
+        validate: |_| Err(refusal(1)),
+        evaluate: |_, _, _| Err(refusal(1)),
+        write_recipe: |_, _, _| Err(refusal(1)),
+        run: |_, _| Err(refusal(11)),
+    };
+    assert_eq!(caught(&refusing), [true; 4]);
+    let constant = Library {
+        validate: |_| Ok(()),
+        evaluate: |_, _, _| Ok(Answer::Gray(0.0)),
+        write_recipe: |_, _, words| {
+            let room = words.first_chunk_mut().ok_or(refusal(10))?;
+            *room = [1, 4];
+            Ok(2)
+        },
+        run: |_, _| Ok(Answer::Gray(0.0)),
+    };
+    assert_eq!(caught(&constant), [true; 4]);
+}
+
+#[test]
+fn faults_in_one_place_are_caught() {
+    // Reports success, writes nothing.
+    let silent = Library {
+        write_recipe: |page, number, words| {
+            let mut other = words.to_vec();
+            (REFERENCE.write_recipe)(page, number, &mut other)
+        },
+        ..REFERENCE
+    };
+    assert_eq!(caught(&silent), [false, false, true, false]);
+    // Writes one word too many.
+    let long = Library {
+        write_recipe: |page, number, words| {
+            let count = (REFERENCE.write_recipe)(page, number, words)?;
+            if let Some(word) = words.get_mut(count) {
+                *word = 0;
+            }
+            Ok(count)
+        },
+        ..REFERENCE
+    };
+    assert_eq!(caught(&long), [false, false, true, false]);
+    // Alters a word, then refuses.
+    let hasty = Library {
+        write_recipe: |page, number, words| {
+            let reply = (REFERENCE.write_recipe)(page, number, words);
+            if let (Err(_), Some(word)) = (reply, words.first_mut()) {
+                *word = 1;
+            }
+            reply
+        },
+        ..REFERENCE
+    };
+    assert_eq!(caught(&hasty), [false, false, true, false]);
+    // Names the wrong block.
+    let blind = Library {
+        validate: |page| {
+            (REFERENCE.validate)(page).map_err(|refusal| Refusal {
+                block: 0,
+                ..refusal
+            })
+        },
+        ..REFERENCE
+    };
+    assert_eq!(caught(&blind), [true, false, false, false]);
+    // Loses the sign of a zero.
+    let unsigned = Library {
+        run: |words, components| match (REFERENCE.run)(words, components)? {
+            Answer::Xyz(v) => Ok(Answer::Xyz(v.map(|v| v + 0.0))),
+            answer => Ok(answer),
+        },
+        ..REFERENCE
+    };
+    assert!(caught(&unsigned)[3]);
+}
