@@ -354,6 +354,13 @@ pub fn write_block(record: &Record, lent: &mut [u8]) -> Result<(), u32> {
     if let Some(number) = record.body.lone_refusal() {
         return Err(number);
     }
+    lent.copy_from_slice(&lay(record));
+    Ok(())
+}
+
+/// The block of a record, check and all, whether or not the record is one to be written.
+/// The record's bytes are laid where a name or a palette lies, and nowhere else.
+pub fn lay(record: &Record) -> [u8; BLOCK] {
     let mut block = [0; BLOCK];
     block[0] = record.body.kind();
     write_two(&mut block, 2, record.number);
@@ -409,8 +416,7 @@ pub fn write_block(record: &Record, lent: &mut [u8]) -> Result<(), u32> {
         Body::Palette => block[BODY_AT..CHECK_AT].copy_from_slice(&record.bytes),
     }
     seal(&mut block);
-    lent.copy_from_slice(&block);
-    Ok(())
+    block
 }
 
 /// Reads one block by itself.

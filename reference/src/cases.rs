@@ -1,11 +1,37 @@
 //! The worked cases: numbers to be put to the other program, and what it is expected to reply.
 //!
-//! A case is one line, `LABEL: OP ARGS`; its reply is one line, `LABEL: RESULT`.
+//! A case is one line, `LABEL: OP ARGS`; its reply is one line, `LABEL: RESULT`. The last argument may be
+//! bytes: an `x`, then two hexadecimal digits for each, or a full stop for one that is zero.
+//!
+//! | no. | arguments | reply |
+//! |---|---|---|
+//! | 1 to 13 | numbers, or bytes | a number, bytes or floats |
+//! | 20 | xBLOCK | one block read: `refused N`, or the record |
+//! | 21 | the record | one block written into 512 bytes AA: `refused N`, with ` kept` where all are AA still, or `x` and the bytes |
+//! | 30 | xPAGE | validated: `accepted`, or `refused N block B` |
+//! | 31 | number count COMPONENTS xPAGE | the colour's answer |
+//! | 32 | number length xPAGE | the recipe written into as many words, each 7: `words N` or `refused N block B`, ` kept` where the words past the recipe (all on a refusal) are 7 still, then the recipe |
+//! | 33 | count COMPONENTS xWORDS | the answer of a recipe, whose words have four bytes each |
+//! | 34 | xPAGE | the listing, its lines joined by `; ` |
+//!
+//! A record is its own number, its kind and the body's numbers in the paper's order (base hival; alternate
+//! exponent name-length C0 C1), then bytes: read, a Separation's 128 name places or a palette's 504; to be
+//! written, the first of the record's 504 places, those missing being zero.
 
+mod blocks;
+mod colours;
+mod pages;
+
+use crate::block::{read_block, write_block, Body, Record, BLOCK, BODY, NAME};
 use crate::cie::{cal_gray, cal_rgb, decode, lab, Answer};
+use crate::colour::evaluate;
+use crate::listing::list;
 use crate::numbers::{
     float_of, index, limit, palette_value, read_four, read_two, tint_power, tint_value,
 };
+use crate::page::validate;
+use crate::records::NINE;
+use crate::{recipe, runner};
 use std::fmt::Write;
 
 /// One worked case: a label, an operation's number, its whole numbers and a last run of bytes.
@@ -27,6 +53,19 @@ pub fn hex_of(bytes: &[u8]) -> String {
     for byte in bytes {
         // Writing into a String never fails.
         let _ = write!(text, "{byte:02x}");
+    }
+    text
+}
+
+/// Bytes as lower-case hexadecimal digits, two to a byte, and a full stop for a byte that is zero.
+pub fn dotted(bytes: &[u8]) -> String {
+    let mut text = String::with_capacity(bytes.len());
+    for byte in bytes {
+        match byte {
+            0 => text.push('.'),
+            // Writing into a String never fails.
+            _ => _ = write!(text, "{byte:02x}"),
+        }
     }
     text
 }
@@ -63,7 +102,13 @@ impl Case {
             let _ = write!(line, " {v}");
         }
         if let Some(bytes) = &self.bytes {
-            let _ = write!(line, " x{}", hex_of(bytes));
+            // The first operations keep to two digits for each byte, so that both notations are read.
+            let text = if self.op < 20 {
+                hex_of(bytes)
+            } else {
+                dotted(bytes)
+            };
+            let _ = write!(line, " x{text}");
         }
         line
     }
@@ -96,19 +141,248 @@ impl Case {
                 answer_text(&Answer::Xyz(cal_rgb(units, matrix, [a, b, c])))
             }
             (13, &[xw, zw, l, a, b], None) => answer_text(&Answer::Xyz(lab(xw, zw, l, a, b))),
+            (20, [], Some(block)) => read_text(block),
+            (21, args, bytes) => write_text(&record_of(args, bytes.unwrap_or(&[]))?),
+            (30, [], Some(page)) => match validate(page) {
+                Ok(_) => "accepted".to_string(),
+                Err(refusal) => refusal_text(refusal),
+            },
+            (31, &[number, count, ref components @ ..], Some(page)) => {
+                let number = u32::try_from(number).ok()?;
+                answer_text(&evaluate(page, number, counted(count, components)?))
+            }
+            (32, &[number, length], Some(page)) => {
+                let number = u32::try_from(number).ok()?;
+                recipe_text(page, number, usize::try_from(length).ok()?)
+            }
+            (33, &[count, ref components @ ..], Some(bytes)) => {
+                let words = words_of(bytes)?;
+                answer_text(&runner::run(&words, counted(count, components)?))
+            }
+            (34, [], Some(page)) => list(page).lines().collect::<Vec<_>>().join("; "),
             _ => return None,
         };
         Some(text)
     }
 }
 
+/// Components that are as many as their count says; none where they are not.
+fn counted(count: i32, components: &[i32]) -> Option<&[i32]> {
+    (usize::try_from(count) == Ok(components.len())).then_some(components)
+}
+
+/// A refusal with its block in words.
+fn refusal_text((number, block): (u32, u32)) -> String {
+    format!("refused {number} block {block}")
+}
+
+/// Words as bytes, four to a word, high byte first.
+fn bytes_of(words: &[i32]) -> Vec<u8> {
+    words.iter().flat_map(|word| word.to_be_bytes()).collect()
+}
+
+/// The words that bytes are, four to a word; none where a word is not whole.
+fn words_of(bytes: &[u8]) -> Option<Vec<i32>> {
+    let words = bytes.chunks_exact(4);
+    if !words.remainder().is_empty() {
+        return None;
+    }
+    Some(words.map(|word| read_four(word, 0)).collect())
+}
+
+/// The numbers of a record's body, in the order of the paper's table.
+fn numbers_of(body: &Body) -> Vec<i32> {
+    match body {
+        Body::Free | Body::Palette => Vec::new(),
+        Body::CalGray {
+            white,
+            black,
+            gamma,
+        } => [&white[..], black, &[*gamma]].concat(),
+        Body::CalRgb {
+            white,
+            black,
+            gammas,
+            matrix,
+        } => [&white[..], black, gammas, matrix].concat(),
+        Body::Lab {
+            white,
+            black,
+            range,
+        } => [&white[..], black, range].concat(),
+        Body::Indexed { base, hival } => vec![i32::from(*base), i32::from(*hival)],
+        Body::Separation {
+            alternate,
+            exponent,
+            name_length,
+            c0,
+            c1,
+        } => {
+            let small = [*exponent, *name_length].map(i32::from);
+            [&[i32::from(*alternate)][..], &small, c0, c1].concat()
+        }
+    }
+}
+
+/// The record of these numbers, own number and kind first, and bytes; none where they make none.
+fn record_of(args: &[i32], given: &[u8]) -> Option<Record> {
+    let two = |v: i32| u16::try_from(v).ok();
+    let &[number, kind, ref numbers @ ..] = args else {
+        return None;
+    };
+    let body = match (kind, numbers) {
+        (0, []) => Body::Free,
+        (1, &[xw, yw, zw, xb, yb, zb, gamma]) => Body::CalGray {
+            white: [xw, yw, zw],
+            black: [xb, yb, zb],
+            gamma,
+        },
+        (2, &[xw, yw, zw, xb, yb, zb, g1, g2, g3, ref matrix @ ..]) => Body::CalRgb {
+            white: [xw, yw, zw],
+            black: [xb, yb, zb],
+            gammas: [g1, g2, g3],
+            matrix: matrix.try_into().ok()?,
+        },
+        (3, &[xw, yw, zw, xb, yb, zb, ref range @ ..]) => Body::Lab {
+            white: [xw, yw, zw],
+            black: [xb, yb, zb],
+            range: range.try_into().ok()?,
+        },
+        (4, &[base, hival]) => Body::Indexed {
+            base: two(base)?,
+            hival: two(hival)?,
+        },
+        (5, &[alternate, exponent, length, c00, c01, c02, c03, ref c1 @ ..]) => Body::Separation {
+            alternate: two(alternate)?,
+            exponent: small(exponent)?,
+            name_length: small(length)?,
+            c0: [c00, c01, c02, c03],
+            c1: c1.try_into().ok()?,
+        },
+        (6, []) => Body::Palette,
+        _ => return None,
+    };
+    let mut bytes = [0; BODY];
+    bytes.get_mut(..given.len())?.copy_from_slice(given);
+    Some(Record {
+        number: two(number)?,
+        body,
+        bytes,
+    })
+}
+
+/// What reading a block gives, in words.
+fn read_text(block: &[u8]) -> String {
+    let record = match read_block(block) {
+        Ok(record) => record,
+        Err(number) => return format!("refused {number}"),
+    };
+    let mut text = format!("{} {}", record.number, record.body.kind());
+    for v in numbers_of(&record.body) {
+        let _ = write!(text, " {v}");
+    }
+    match record.body {
+        Body::Separation { .. } => text + " x" + &dotted(&record.bytes[..NAME]),
+        Body::Palette => text + " x" + &dotted(&record.bytes),
+        _ => text,
+    }
+}
+
+/// What writing a record into 512 bytes AA gives, in words.
+fn write_text(record: &Record) -> String {
+    let mut lent = [0xaa; BLOCK];
+    match write_block(record, &mut lent) {
+        Ok(()) => format!("x{}", dotted(&lent)),
+        Err(number) if lent == [0xaa; BLOCK] => format!("refused {number} kept"),
+        Err(number) => format!("refused {number}"),
+    }
+}
+
+/// What writing a recipe into this many words, each 7, gives, in words.
+fn recipe_text(page: &[u8], number: u32, length: usize) -> String {
+    let mut lent = vec![7; length];
+    let reply = recipe::write(page, number, &mut lent);
+    let mut text = match reply {
+        Ok(count) => format!("words {count}"),
+        Err(refusal) => refusal_text(refusal),
+    };
+    let (written, rest) = lent.split_at(reply.unwrap_or(0));
+    if rest.iter().all(|word| *word == 7) {
+        text.push_str(" kept");
+    }
+    for word in written {
+        let _ = write!(text, " {word}");
+    }
+    text
+}
+
+/// A number of millionths in decimal, for labels.
+fn decimal(v: i32) -> String {
+    match v {
+        i32::MIN => return "the least number".to_string(),
+        i32::MAX => return "the greatest number".to_string(),
+        _ => {}
+    }
+    let sign = if v < 0 { "-" } else { "" };
+    let (whole, rest) = (v.unsigned_abs() / 1_000_000, v.unsigned_abs() % 1_000_000);
+    let text = format!("{sign}{whole}.{rest:06}");
+    text.trim_end_matches('0').trim_end_matches('.').to_string()
+}
+
+/// Gathers cases.
+#[derive(Default)]
+struct Maker {
+    cases: Vec<Case>,
+}
+
+impl Maker {
+    /// Adds a case.
+    fn add(&mut self, op: u32, label: impl Into<String>, args: &[i32], bytes: Option<&[u8]>) {
+        self.cases.push(Case {
+            label: label.into(),
+            op,
+            args: args.to_vec(),
+            bytes: bytes.map(<[u8]>::to_vec),
+        });
+    }
+}
+
+/// A group of cases that can be put to the program apart from the others.
+#[derive(Clone, Copy)]
+pub struct Group {
+    /// The word that asks for the group.
+    pub name: &'static str,
+    /// Makes the group's cases.
+    make: fn() -> Vec<Case>,
+}
+
+/// One block read and written by itself: operations 20 and 21.
+pub const BLOCK_CASES: Group = Group {
+    name: "blocks",
+    make: blocks::cases,
+};
+
+/// Pages validated and listed: operations 30 and 34.
+pub const PAGE_CASES: Group = Group {
+    name: "pages",
+    make: pages::cases,
+};
+
+/// Colours, recipes and runs: operations 31, 32 and 33.
+pub const COLOUR_CASES: Group = Group {
+    name: "colours",
+    make: colours::cases,
+};
+
+/// Every group.
+pub const GROUPS: [Group; 3] = [BLOCK_CASES, PAGE_CASES, COLOUR_CASES];
+
+/// The groups that are put to the program without being asked for.
+const ON: &[Group] = &[];
+
 /// The white point of the paper's examples, X and Z: 0.9505 and 1.089.
 const XW: i32 = 950_500;
 const ZW: i32 = 1_089_000;
-/// The matrix that shows the order of its numbers: nine different ones.
-const NINE: [i32; 9] = [
-    412_456, 212_673, 19_334, 357_576, 715_152, 119_192, 180_438, 72_175, 950_304,
-];
 
 /// The number cases: a label, an operation and whole numbers.
 const PLAIN: &[(&str, u32, &[i32])] = &[
@@ -397,40 +671,47 @@ const CAL_RGB: &[CalRgbCase] = &[
     ),
 ];
 
-/// All the worked cases, in the order in which they are put to the program.
+/// The cases of operations 1 to 13, in the order in which they are put to the program.
+fn plain() -> Vec<Case> {
+    let mut maker = Maker::default();
+    for (label, op, args) in PLAIN {
+        maker.add(*op, *label, args, None);
+    }
+    for (label, op, bytes) in BYTES {
+        maker.add(*op, *label, &[], Some(bytes));
+    }
+    for (label, gammas, matrix, abc) in CAL_RGB {
+        maker.add(12, *label, &[&gammas[..], matrix, abc].concat(), None);
+    }
+    maker.cases
+}
+
+/// All the worked cases that are switched on, in the order in which they are put to the program.
 pub fn all() -> Vec<Case> {
-    let mut cases: Vec<Case> = PLAIN
-        .iter()
-        .map(|&(label, op, args)| Case {
-            label: label.to_string(),
-            op,
-            args: args.to_vec(),
-            bytes: None,
-        })
-        .collect();
-    cases.extend(BYTES.iter().map(|&(label, op, bytes)| Case {
-        label: label.to_string(),
-        op,
-        args: Vec::new(),
-        bytes: Some(bytes.to_vec()),
-    }));
-    cases.extend(CAL_RGB.iter().map(|&(label, gammas, matrix, abc)| Case {
-        label: label.to_string(),
-        op: 12,
-        args: [&gammas[..], &matrix[..], &abc[..]].concat(),
-        bytes: None,
-    }));
+    with(&[])
+}
+
+/// The worked cases that are switched on, and these groups, each once.
+pub fn with(groups: &[Group]) -> Vec<Case> {
+    let mut cases = plain();
+    let mut seen = Vec::new();
+    for group in ON.iter().chain(groups) {
+        if !seen.contains(&group.name) {
+            seen.push(group.name);
+            cases.extend((group.make)());
+        }
+    }
     cases
 }
 
-/// The whole text that is put to the program: one case to a line.
-pub fn input_text() -> String {
-    all().iter().map(|case| case.input_line() + "\n").collect()
+/// The text that puts cases to the program: one case to a line.
+pub fn input_text(cases: &[Case]) -> String {
+    cases.iter().map(|case| case.input_line() + "\n").collect()
 }
 
-/// The whole text that the program is expected to write: one result to a line.
-pub fn output_text() -> String {
-    all().iter().map(|case| case.output_line() + "\n").collect()
+/// The text that the program is expected to write: one result to a line.
+pub fn output_text(cases: &[Case]) -> String {
+    cases.iter().map(|case| case.output_line() + "\n").collect()
 }
 
 #[cfg(test)]
@@ -443,20 +724,292 @@ mod tests {
         case.and_then(|case| case.result()).unwrap()
     }
 
+    /// The reply of a case of this operation, any group's.
+    fn reply_of(op: u32, label: &str) -> String {
+        let mut cases = with(&GROUPS).into_iter();
+        let case = cases.find(|case| case.op == op && case.label == label);
+        case.and_then(|case| case.result()).expect(label)
+    }
+
+    fn ops(cases: &[Case]) -> Vec<u32> {
+        let ops: std::collections::BTreeSet<u32> = cases.iter().map(|case| case.op).collect();
+        ops.into_iter().collect()
+    }
+
     #[test]
     fn the_cases_are_well_formed() {
-        let cases = all();
+        let cases = with(&GROUPS);
         let mut labels = HashSet::new();
         for case in &cases {
             assert!(!case.label.is_empty() && case.label.len() <= 100);
             assert!(!case.label.contains([':', '\n']));
             assert!(labels.insert(case.label.clone()), "{}", case.label);
             assert!(case.result().is_some(), "{}", case.label);
+            assert!(case.args.len() <= 23, "{}", case.label);
+            assert!(case.input_line().len() <= 65_000, "{}", case.label);
+            assert!(case.output_line().len() <= 65_000, "{}", case.label);
         }
-        let ops: HashSet<u32> = cases.iter().map(|case| case.op).collect();
-        assert_eq!(ops, (1..=13).collect());
-        assert_eq!(input_text().lines().count(), cases.len());
-        assert_eq!(output_text().lines().count(), cases.len());
+        assert_eq!(ops(&plain()), (1..=13).collect::<Vec<_>>());
+        assert_eq!(ops(&(BLOCK_CASES.make)()), [20, 21]);
+        assert_eq!(ops(&(PAGE_CASES.make)()), [30, 34]);
+        assert_eq!(ops(&(COLOUR_CASES.make)()), [31, 32, 33]);
+        assert_eq!(input_text(&cases).lines().count(), cases.len());
+        assert_eq!(output_text(&cases).lines().count(), cases.len());
+        // A group that is asked for twice comes once.
+        let twice = [GROUPS, GROUPS].concat();
+        assert_eq!(with(&twice), cases);
+    }
+
+    /// A line's case, read as the program reads it.
+    fn parse(line: &str) -> Case {
+        let (label, rest) = line.split_once(": ").unwrap();
+        let mut words = rest.split(' ');
+        let op = words.next().unwrap().parse().unwrap();
+        let (mut args, mut bytes) = (Vec::new(), None);
+        for word in words {
+            assert_eq!(bytes, None);
+            match word.strip_prefix('x') {
+                None => args.push(word.parse().unwrap()),
+                Some(text) => {
+                    let mut text = text.chars();
+                    let mut read = Vec::new();
+                    while let Some(first) = text.next() {
+                        if first == '.' {
+                            read.push(0);
+                            continue;
+                        }
+                        let digits = [first, text.next().unwrap()];
+                        let [high, low] = digits.map(|digit| digit.to_digit(16).unwrap() as u8);
+                        read.push(16 * high + low);
+                    }
+                    bytes = Some(read);
+                }
+            }
+        }
+        let label = label.to_string();
+        Case {
+            label,
+            op,
+            args,
+            bytes,
+        }
+    }
+
+    #[test]
+    fn lines_are_read_back() {
+        for case in with(&GROUPS) {
+            assert_eq!(parse(&case.input_line()), case);
+        }
+        let both = parse("a label: 30 x.0000.ff.0a");
+        assert_eq!(both.bytes, Some(vec![0, 0, 0, 0, 255, 0, 10]));
+    }
+
+    #[test]
+    fn every_refusal_is_reached() {
+        let cases = with(&GROUPS);
+        let replies: Vec<(u32, String)> = cases
+            .iter()
+            .map(|case| (case.op, case.result().unwrap()))
+            .collect();
+        let met = |op: u32, number: u32| {
+            let text = format!("refused {number}");
+            let is = |reply: &str| reply == text || reply.starts_with(&format!("{text} "));
+            replies.iter().any(|(of, reply)| *of == op && is(reply))
+        };
+        for (op, expected) in [
+            (20, &[2, 3, 4, 5, 6, 10][..]),
+            (21, &[3, 4, 5, 6]),
+            (30, &[1, 2, 3, 4, 5, 6, 7]),
+            (31, &[1, 2, 7, 8, 9]),
+            (32, &[1, 2, 8, 10]),
+            (33, &[9, 11]),
+            (34, &[1, 2, 4]),
+        ] {
+            let found: Vec<u32> = (1..=11).filter(|number| met(op, *number)).collect();
+            assert_eq!(found, expected, "operation {op}");
+        }
+        // A refusal of writing keeps every byte and word.
+        for (op, reply) in &replies {
+            if *op == 21 && reply.starts_with("refused") {
+                assert!(reply.ends_with(" kept"), "{reply}");
+            }
+            if *op == 32 {
+                assert!(reply.contains(" kept"), "{reply}");
+            }
+        }
+    }
+
+    #[test]
+    fn a_recipe_replies_what_its_page_replies() {
+        let cases = with(&GROUPS);
+        let mut compared = 0;
+        for case in cases.iter().filter(|case| case.op == 33) {
+            if let Some(label) = case.label.strip_suffix(", by its recipe") {
+                assert_eq!(case.result().unwrap(), reply_of(31, label), "{label}");
+                compared += 1;
+            }
+        }
+        assert!(compared > 100, "{compared}");
+    }
+
+    #[test]
+    fn group_replies_worked_by_hand() {
+        let white = answer_text(&Answer::Xyz([0.9505, 1.0, 1.089]));
+        let zeros = answer_text(&Answer::Xyz([0.0; 3]));
+        for (op, label, expected) in [
+            (20, "an all-zero block 0", "0 0"),
+            (20, "free block 5 has check 5 and 2525, read", "5 0"),
+            (
+                20,
+                "CalGray block 0, white 0.9505 1 1.089, black 0, gamma 1, read",
+                "0 1 950500 1000000 1089000 0 0 0 1000000",
+            ),
+            (
+                20,
+                "CalGray gamma 4 is fine, read",
+                "0 1 950500 1000000 1089000 0 0 0 4000000",
+            ),
+            (20, "CalGray gamma 1.8 gives 5, read", "refused 5"),
+            (21, "CalGray gamma 0 gives 4, written", "refused 4 kept"),
+            (21, "CalRGB gamma 0 gives 5, written", "refused 5 kept"),
+            (21, "hival 256 gives 4, written", "refused 4 kept"),
+            (20, "Indexed base 63, read", "1 4 63 9"),
+            (20, "Indexed base 64, read", "refused 6"),
+            (
+                20,
+                "FFFF stored where the sum's check 0 is due",
+                "refused 2",
+            ),
+            (30, "65 blocks give 1", "refused 1 block 0"),
+            (30, "64 blocks are judged", "accepted"),
+            (
+                30,
+                "a fault for 7 in block 1 and one for 2 in block 3",
+                "refused 2 block 3",
+            ),
+            (
+                30,
+                "a fault for 7 in block 1 and one for 4 in block 3",
+                "refused 7 block 1",
+            ),
+            (
+                30,
+                "a fault for 3 in block 1 and one for 2 in block 3",
+                "refused 3 block 1",
+            ),
+            (
+                30,
+                "a short run is the Indexed block's fault",
+                "refused 7 block 2",
+            ),
+            (
+                30,
+                "a spare byte is the Indexed block's fault",
+                "refused 7 block 2",
+            ),
+            (30, "a palette block after a full run", "refused 7 block 2"),
+            (
+                30,
+                "a reference to a block that is faulty",
+                "refused 5 block 1",
+            ),
+            (30, "a reference from block 0 to block 63", "accepted"),
+            (
+                30,
+                "a reference from block 0 to block 64 of 64",
+                "refused 6 block 0",
+            ),
+            (
+                34,
+                "the CalGray page of the paper, listed",
+                "blocks 1; 0 CalGray 1 9",
+            ),
+            (
+                34,
+                "the CalGray page with a wrong check, listed",
+                "refused 2 block 0",
+            ),
+            (
+                34,
+                "hival 255 over CMYK, 1024 palette bytes, three blocks, listed",
+                "blocks 4; 0 Indexed 1 1045",
+            ),
+            (
+                31,
+                "CalGray, its colour 1 gives the white point's floats",
+                &white,
+            ),
+            (31, "CalGray, -3 gives zeros", &zeros),
+            (
+                33,
+                "Lab (100,0,0), the white point's floats, by its recipe",
+                &white,
+            ),
+            (33, "Lab (0,0,0), zeros, by its recipe", &zeros),
+            (
+                31,
+                "tint 0.375 of -1 to 3, the result is limited, not the ends",
+                "Gray 3fe0000000000000",
+            ),
+            (31, "5 components for DeviceCMYK", "refused 9 block 0"),
+            (31, "the page's refusal before 8", "refused 2 block 4"),
+            (
+                32,
+                "recipe of Gray 6, a word short",
+                "refused 10 block 0 kept",
+            ),
+            (
+                32,
+                "recipe of Gray 6, a word more",
+                "words 6 kept 1 1 0 0 1000000 4",
+            ),
+            (33, "no step at all is well-formed", "Gray c01c000000000000"),
+            (
+                33,
+                "a run of 1046 words, the most being 1045",
+                "refused 11 block 0",
+            ),
+        ] {
+            assert_eq!(reply_of(op, label), expected, "{label}");
+        }
+        // The check of the paper's CalGray block: 1066 and 3030.
+        let gray = "CalGray block 0, white 0.9505 1 1.089, black 0, gamma 1, written";
+        assert!(reply_of(21, gray).ends_with(".042a0bd6"));
+        assert!(reply_of(21, "free block 5 has check 5 and 2525, written").ends_with("...0509dd"));
+        let byte = "index 181 is byte B5, which gives 709804, on a page";
+        assert_eq!(reply_of(31, byte), answer_text(&Answer::Gray(0.709804)));
+        let room = "hival 255 over CMYK, 1045 words into 1046";
+        assert!(reply_of(32, room).starts_with("words 1045 kept 1 2 4 255 0 "));
+    }
+
+    #[test]
+    fn records_are_their_numbers_and_bytes() {
+        let mut rng = crate::generate::Rng::new(14);
+        for _ in 0..500 {
+            let number = rng.below(64) as u16;
+            let record = crate::generate::random_lone_record(&mut rng, number);
+            let mut args = vec![i32::from(number), i32::from(record.body.kind())];
+            args.extend(numbers_of(&record.body));
+            assert_eq!(record_of(&args, &record.bytes), Some(record));
+            assert_eq!(record_of(&args[..1], &record.bytes), None);
+            args.push(0);
+            assert_eq!(record_of(&args, &record.bytes), None);
+        }
+        assert_eq!(record_of(&[0, 0], &[0; BODY + 1]), None);
+        assert_eq!(record_of(&[-1, 0], &[]), None);
+        assert_eq!(record_of(&[0, 7], &[]), None);
+        let words = [1, -2, i32::MIN, i32::MAX];
+        assert_eq!(words_of(&bytes_of(&words)), Some(words.to_vec()));
+        assert_eq!(words_of(&[0; 5]), None);
+        for (v, text) in [
+            (0, "0"),
+            (1_800_000, "1.8"),
+            (-1, "-0.000001"),
+            (40_000_000, "40"),
+            (-100, "-0.0001"),
+        ] {
+            assert_eq!(decimal(v), text);
+        }
     }
 
     #[test]
@@ -516,8 +1069,8 @@ mod tests {
         };
         assert_eq!(case.input_line(), "a label: 8 xffffff0a");
         assert_eq!(case.output_line(), "a label: -246");
-        assert!(input_text().contains("limit -1 to 0..10: 1 -1 0 10\n"));
-        assert!(output_text().contains("limit -1 to 0..10: 0\n"));
+        assert!(input_text(&all()).contains("limit -1 to 0..10: 1 -1 0 10\n"));
+        assert!(output_text(&all()).contains("limit -1 to 0..10: 0\n"));
         let refused = Answer::Refused {
             number: 7,
             block: 63,

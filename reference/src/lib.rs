@@ -15,4 +15,5 @@ pub mod listing;
 pub mod numbers;
 pub mod page;
 pub mod recipe;
+pub mod records;
 pub mod runner;
