@@ -17,3 +17,4 @@ pub mod page;
 pub mod recipe;
 pub mod records;
 pub mod runner;
+pub mod samples;

@@ -1,0 +1,31 @@
+//! `samples DIR`: writes the sample pages, their listings and what is said of them into a folder.
+
+use reference::listing::list;
+use reference::samples::{all, readme};
+use std::path::Path;
+use std::process::ExitCode;
+
+/// Writes every file.
+fn write(folder: &Path) -> std::io::Result<()> {
+    for sample in all() {
+        std::fs::write(folder.join(format!("{}.page", sample.name)), &sample.page)?;
+        let listing = folder.join(format!("{}.txt", sample.name));
+        std::fs::write(listing, list(&sample.page))?;
+    }
+    std::fs::write(folder.join("README.md"), readme())
+}
+
+fn main() -> ExitCode {
+    let mut words = std::env::args_os().skip(1);
+    let (Some(folder), None) = (words.next(), words.next()) else {
+        eprintln!("usage: samples DIR");
+        return ExitCode::from(2);
+    };
+    match write(Path::new(&folder)) {
+        Ok(()) => ExitCode::SUCCESS,
+        Err(error) => {
+            eprintln!("samples: {error}");
+            ExitCode::FAILURE
+        }
+    }
+}

@@ -1,0 +1,37 @@
+//! The samples on disk are the ones that are written today, and show what they say.
+
+use reference::block::BLOCK;
+use reference::listing::list;
+use reference::page::{spaces, validate};
+use reference::samples::{all, readme};
+use std::path::Path;
+
+#[test]
+fn the_files_are_fresh() {
+    let folder = Path::new(env!("CARGO_MANIFEST_DIR")).join("../samples");
+    for sample in all() {
+        let page = std::fs::read(folder.join(format!("{}.page", sample.name))).unwrap();
+        assert!(page == sample.page, "{}.page is stale", sample.name);
+        let listing = std::fs::read_to_string(folder.join(format!("{}.txt", sample.name))).unwrap();
+        assert_eq!(listing, list(&sample.page), "{}.txt is stale", sample.name);
+    }
+    let text = std::fs::read_to_string(folder.join("README.md")).unwrap();
+    assert!(text == readme(), "README.md is stale");
+}
+
+#[test]
+fn all_but_the_damaged_one_are_accepted() {
+    let mut families = std::collections::BTreeSet::new();
+    for sample in all() {
+        let expected = match sample.name {
+            "damaged" => Err((2, 0)),
+            _ => Ok(sample.page.len() / BLOCK),
+        };
+        assert_eq!(validate(&sample.page), expected, "{}", sample.name);
+        if sample.name == "full" {
+            assert_eq!(expected, Ok(64));
+            families.extend(spaces(&sample.page).map(|(_, family)| family.name()));
+        }
+    }
+    assert_eq!(families.len(), 5);
+}
