@@ -54,7 +54,7 @@ pub fn validate(library: &Library, rng: &mut Rng, pages: u64) -> Result<Tally, D
 pub fn evaluate(library: &Library, rng: &mut Rng, colours: u64) -> Result<Tally, Difference> {
     let mut tally = Tally::default();
     while tally.total() < colours {
-        let page = if rng.once_in(6) {
+        let page = if rng.once_in(4) {
             inputs::page(rng)
         } else {
             random_page(rng)
@@ -124,7 +124,7 @@ pub struct Recipes {
 pub fn recipes(library: &Library, rng: &mut Rng, colours: u64) -> Result<Recipes, Difference> {
     let mut found = Recipes::default();
     while found.run.total() < colours {
-        let page = if rng.once_in(6) {
+        let page = if rng.once_in(4) {
             inputs::page(rng)
         } else {
             random_page(rng)

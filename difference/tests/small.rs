@@ -19,9 +19,9 @@ fn pages_are_validated_alike() {
 
 #[test]
 fn colours_are_evaluated_alike() {
-    let tally = compare::evaluate(&PROVED, &mut Rng::new(2), PAGES).unwrap();
-    assert_eq!(tally.total(), PAGES);
-    assert!(tally.accepted > PAGES / 4);
+    let tally = compare::evaluate(&PROVED, &mut Rng::new(2), 4 * PAGES).unwrap();
+    assert_eq!(tally.total(), 4 * PAGES);
+    assert!(tally.accepted > PAGES);
     for number in 1..=9 {
         assert!(tally.refused[number] > 0, "refusal {number} was never met");
     }

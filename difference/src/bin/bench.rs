@@ -1,0 +1,292 @@
+//! `bench`: measures the proved library beside the second implementation, and prints markdown tables.
+//! Each figure is the least of several rounds, after a warm-up.
+
+use difference::{Library, PROVED, REFERENCE};
+use reference::block::{DEVICE_CMYK, DEVICE_GRAY, DEVICE_RGB};
+use reference::generate::Rng;
+use reference::numbers::ONE;
+use reference::records::{
+    cal_gray, cal_rgb, free, indexed_run, lab, page, separation, NINE, USUAL, WHITE,
+};
+use std::hint::black_box;
+use std::time::Instant;
+
+/// How many rounds are timed; the least counts.
+const ROUNDS: usize = 31;
+/// How many colours a round of `run` has, all different.
+const COLOURS: usize = 4096;
+
+/// The least nanoseconds of a round.
+fn least(mut round: impl FnMut()) -> f64 {
+    for _ in 0..3 {
+        round();
+    }
+    let time = |_| {
+        let start = Instant::now();
+        round();
+        start.elapsed().as_nanos() as f64
+    };
+    (0..ROUNDS).map(time).fold(f64::INFINITY, f64::min)
+}
+
+/// Colours, one after the other, and how many components each has.
+struct Colours {
+    components: Vec<i32>,
+    each: usize,
+}
+
+impl Colours {
+    /// This many colours, each component within its range.
+    fn new(ranges: &[(i32, i32)], count: usize) -> Self {
+        let rng = &mut Rng::new(1);
+        let all = (0..count).flat_map(|_| ranges);
+        Colours {
+            components: all.map(|(lo, hi)| rng.between(*lo, *hi)).collect(),
+            each: ranges.len(),
+        }
+    }
+
+    /// Each colour.
+    fn each(&self) -> impl Iterator<Item = &[i32]> {
+        self.components.chunks_exact(self.each)
+    }
+
+    /// How many colours there are.
+    fn count(&self) -> f64 {
+        (self.components.len() / self.each) as f64
+    }
+}
+
+/// A space to be measured: its name, its page and number, and the ranges of its components.
+struct Space {
+    name: &'static str,
+    page: Vec<u8>,
+    number: u32,
+    ranges: Vec<(i32, i32)>,
+}
+
+/// The spaces of which recipes are run, each on a page of no more blocks than it needs.
+fn spaces() -> Vec<Space> {
+    let unit = (0, ONE);
+    let rows = (0, 255 * ONE);
+    let hundred = (-100 * ONE, 100 * ONE);
+    let device = |name, code: u16, count| Space {
+        name,
+        page: page(&[free(0)]),
+        number: u32::from(code),
+        ranges: vec![unit; count],
+    };
+    let space = |name, records: &[_], ranges: &[(i32, i32)]| Space {
+        name,
+        page: page(records),
+        number: 0,
+        ranges: ranges.to_vec(),
+    };
+    let bytes: Vec<u8> = (0..1024).map(|place| (place * 73 % 256) as u8).collect();
+    let ink = [ONE, 200_000, 650_000, 150_000];
+    let blue = [20 * ONE, 15 * ONE, -45 * ONE, 0];
+    let mut nested = indexed_run(0, 2, 255, &bytes[..256]);
+    nested.push(separation(2, 3, 2, [100 * ONE, 0, 0, 0], blue));
+    nested.push(lab(3, USUAL));
+    vec![
+        device("Gray", DEVICE_GRAY, 1),
+        device("RGB", DEVICE_RGB, 3),
+        device("CMYK", DEVICE_CMYK, 4),
+        space("CalGray, gamma 2", &[cal_gray(0, 2 * ONE)], &[unit]),
+        space("CalRGB, gammas 2", &[cal_rgb(0, [2 * ONE; 3])], &[unit; 3]),
+        space("Lab", &[lab(0, USUAL)], &[(0, 100 * ONE), hundred, hundred]),
+        space(
+            "Indexed over RGB, hival 255",
+            &indexed_run(0, DEVICE_RGB, 255, &bytes[..768]),
+            &[rows],
+        ),
+        space(
+            "Separation over CMYK, exponent 2",
+            &[separation(0, DEVICE_CMYK, 2, [0; 4], ink)],
+            &[unit],
+        ),
+        space("Indexed over Separation over Lab", &nested, &[rows]),
+    ]
+}
+
+/// The sum of bytes: a plain read of memory.
+fn sum(bytes: &[u8]) -> u64 {
+    bytes.iter().map(|byte| u64::from(*byte)).sum()
+}
+
+/// Validation of a full page, in bytes a second.
+fn validation(full: &[u8]) {
+    const TIMES: usize = 64;
+    let speed = |work: &dyn Fn()| {
+        let time = least(|| (0..TIMES).for_each(|_| work()));
+        (TIMES * full.len()) as f64 / time
+    };
+    let read = speed(&|| {
+        black_box(sum(black_box(full)));
+    });
+    let validate = |library: Library| {
+        speed(&|| {
+            black_box((library.validate)(black_box(full))).expect("the page is accepted");
+        })
+    };
+    println!("| {} bytes, 64 blocks | GB/s |", full.len());
+    println!("|---|---|");
+    println!("| `validate` | {:.2} |", validate(PROVED));
+    println!("| the second implementation | {:.2} |", validate(REFERENCE));
+    println!("| plain read: the sum of the bytes | {read:.2} |");
+}
+
+/// The nanoseconds of one run of a recipe.
+fn run_time(library: Library, words: &[i32], colours: &Colours) -> f64 {
+    let time = least(|| {
+        for colour in colours.each() {
+            black_box((library.run)(black_box(words), colour)).expect("the colour is answered");
+        }
+    });
+    time / colours.count()
+}
+
+/// Runs of recipes, for every family.
+fn runs() {
+    println!("| `run` | words | ns per colour | the second implementation |");
+    println!("|---|---|---|---|");
+    for space in spaces() {
+        let words = sktelbaan::recipe(&space.page, space.number).expect("the page is accepted");
+        let colours = Colours::new(&space.ranges, COLOURS);
+        println!(
+            "| {} | {} | {:.1} | {:.1} |",
+            space.name,
+            words.len(),
+            run_time(PROVED, &words, &colours),
+            run_time(REFERENCE, &words, &colours)
+        );
+    }
+}
+
+/// Colours on pages: on as few blocks as the space needs, and on a full page.
+fn evaluations(full: &[u8]) {
+    let evaluate = |library: Library, page: &[u8], number: u32, colours: &Colours| {
+        let time = least(|| {
+            for colour in colours.each() {
+                let answer = (library.evaluate)(black_box(page), number, colour);
+                black_box(answer).expect("the colour is answered");
+            }
+        });
+        time / colours.count()
+    };
+    println!("| `evaluate` | blocks | ns per colour | the second implementation |");
+    println!("|---|---|---|---|");
+    let row = |name: &str, page: &[u8], number, colours: &Colours| {
+        println!(
+            "| {name} | {} | {:.0} | {:.0} |",
+            page.len() / 512,
+            evaluate(PROVED, page, number, colours),
+            evaluate(REFERENCE, page, number, colours)
+        );
+    };
+    for space in spaces().iter().filter(|space| space.page.len() == 512) {
+        let colours = Colours::new(&space.ranges, 256);
+        row(space.name, &space.page, space.number, &colours);
+    }
+    let unit = (0, ONE);
+    let lightness = (0, 100 * ONE);
+    for (name, number, ranges) in [
+        ("RGB", u32::from(DEVICE_RGB), vec![unit; 3]),
+        ("CalGray", 0, vec![unit]),
+        ("CalRGB", 1, vec![unit; 3]),
+        ("Lab", 2, vec![lightness, (-ONE, ONE), (-ONE, ONE)]),
+        ("Separation over Lab", 3, vec![unit]),
+        ("Indexed over Gray", 4, vec![(0, 255 * ONE)]),
+    ] {
+        row(name, full, number, &Colours::new(&ranges, 32));
+    }
+}
+
+#[cfg(lcms2)]
+mod lcms {
+    //! LittleCMS beside the library: the same colours, in doubles.
+
+    use super::*;
+
+    extern "C" {
+        fn lcms_lab(white: *const f64, lab: *const f64, xyz: *mut f64, count: usize);
+        fn lcms_matrix(rows: *const f64, abc: *const f64, xyz: *mut f64, count: usize);
+    }
+
+    /// A function of LittleCMS over many colours: constants, colours, results, count.
+    type Many = unsafe extern "C" fn(*const f64, *const f64, *mut f64, usize);
+
+    /// One row: a recipe's runs beside LittleCMS, and how far the answers are apart at most.
+    fn row(
+        name: &str,
+        record: reference::block::Record,
+        many: Many,
+        constants: &[f64],
+        ranges: &[(i32, i32)],
+    ) {
+        let words = sktelbaan::recipe(&page(&[record]), 0).expect("the page is accepted");
+        let colours = Colours::new(ranges, COLOURS);
+        let components = colours.components.iter();
+        let floats: Vec<f64> = components.map(|v| f64::from(*v) / 1e6).collect();
+        let mut xyz = vec![0.0; 3 * COLOURS];
+        let time = least(|| {
+            let (from, to) = (black_box(&floats), black_box(&mut xyz));
+            // SAFETY: three doubles for each colour are there to be read and to be written.
+            unsafe { many(constants.as_ptr(), from.as_ptr(), to.as_mut_ptr(), COLOURS) };
+        });
+        let apart = colours
+            .each()
+            .flat_map(|colour| {
+                let answer = sktelbaan::run(&words, colour).expect("the colour is answered");
+                answer.floats().to_vec()
+            })
+            .zip(&xyz)
+            .map(|(a, b)| (a - b).abs())
+            .fold(0.0, f64::max);
+        println!(
+            "| {name} | {:.1} | {:.1} | {:.1} | {apart:.1e} |",
+            run_time(PROVED, &words, &colours),
+            run_time(REFERENCE, &words, &colours),
+            time / COLOURS as f64
+        );
+    }
+
+    /// Both rows.
+    pub fn rows() {
+        println!("| ns per colour | `run` | the second implementation | LittleCMS | greatest difference |");
+        println!("|---|---|---|---|---|");
+        let hundred = (-100 * ONE, 100 * ONE);
+        row(
+            "Lab, `cmsLab2XYZ`",
+            lab(0, USUAL),
+            lcms_lab,
+            &WHITE.map(|v| f64::from(v) / 1e6),
+            &[(0, 100 * ONE), hundred, hundred],
+        );
+        // A record's matrix has X, Y and Z of A first; a row has X of A, B and C.
+        let [xa, ya, za, xb, yb, zb, xc, yc, zc] = NINE.map(|v| f64::from(v) / 1e6);
+        row(
+            "CalRGB with gammas 1, `_cmsMAT3eval`",
+            cal_rgb(0, [ONE; 3]),
+            lcms_matrix,
+            &[xa, xb, xc, ya, yb, yc, za, zb, zc],
+            &[(0, ONE); 3],
+        );
+    }
+}
+
+fn main() {
+    let samples = reference::samples::all();
+    let full = samples.into_iter().find(|sample| sample.name == "full");
+    let full = full.expect("a full page is among the samples").page;
+    validation(&full);
+    println!();
+    runs();
+    println!();
+    evaluations(&full);
+    println!();
+    #[cfg(lcms2)]
+    lcms::rows();
+    #[cfg(not(lcms2))]
+    println!("LittleCMS was not found when this was built.");
+}
