@@ -1,7 +1,6 @@
 //! `bench`: measures the proved library beside the second implementation, and prints markdown tables.
 //! Each figure is the least of several rounds, after a warm-up.
 
-use difference::{Library, PROVED, REFERENCE};
 use reference::block::{DEVICE_CMYK, DEVICE_GRAY, DEVICE_RGB};
 use reference::generate::Rng;
 use reference::numbers::ONE;
@@ -12,7 +11,7 @@ use std::hint::black_box;
 use std::time::Instant;
 
 /// How many rounds are timed; the least counts.
-const ROUNDS: usize = 31;
+const ROUNDS: usize = 301;
 /// How many colours a round of `run` has, all different.
 const COLOURS: usize = 4096;
 
@@ -109,80 +108,97 @@ fn spaces() -> Vec<Space> {
     ]
 }
 
-/// The sum of bytes: a plain read of memory.
-fn sum(bytes: &[u8]) -> u64 {
-    bytes.iter().map(|byte| u64::from(*byte)).sum()
+/// The sum of bytes.
+fn sum(bytes: &[u8]) -> u32 {
+    bytes.iter().map(|byte| u32::from(*byte)).sum()
+}
+
+/// The sum of eight bytes at a time: no more than memory is read.
+fn sum_of_words(bytes: &[u8]) -> u64 {
+    let words = bytes.chunks_exact(8).filter_map(|word| word.first_chunk());
+    words.fold(0, |sum, word| sum.wrapping_add(u64::from_le_bytes(*word)))
 }
 
 /// Validation of a full page, in bytes a second.
 fn validation(full: &[u8]) {
-    const TIMES: usize = 64;
-    let speed = |work: &dyn Fn()| {
-        let time = least(|| (0..TIMES).for_each(|_| work()));
-        (TIMES * full.len()) as f64 / time
-    };
-    let read = speed(&|| {
-        black_box(sum(black_box(full)));
-    });
-    let validate = |library: Library| {
-        speed(&|| {
-            black_box((library.validate)(black_box(full))).expect("the page is accepted");
-        })
-    };
+    /// Bytes in a nanosecond, thousands of millions in a second.
+    fn speed<T>(bytes: &[u8], work: impl Fn(&[u8]) -> T) -> f64 {
+        const TIMES: usize = 16;
+        let time = least(|| {
+            for _ in 0..TIMES {
+                black_box(&work(black_box(bytes)));
+            }
+        });
+        (TIMES * bytes.len()) as f64 / time
+    }
+    assert!(sktelbaan::validate(full).is_ok());
     println!("| {} bytes, 64 blocks | GB/s |", full.len());
     println!("|---|---|");
-    println!("| `validate` | {:.2} |", validate(PROVED));
-    println!("| the second implementation | {:.2} |", validate(REFERENCE));
-    println!("| plain read: the sum of the bytes | {read:.2} |");
+    println!("| `validate` | {:.2} |", speed(full, sktelbaan::validate));
+    let second = speed(full, reference::page::validate);
+    println!("| the second implementation | {second:.2} |");
+    let free = page(&(0..64).map(free).collect::<Vec<_>>());
+    assert!(sktelbaan::validate(&free).is_ok());
+    let empty = speed(&free, sktelbaan::validate);
+    println!("| `validate`, 64 free blocks | {empty:.2} |");
+    println!("| the sum of the bytes | {:.2} |", speed(full, sum));
+    let words = speed(full, sum_of_words);
+    println!("| the sum of the bytes, eight at a time | {words:.2} |");
 }
 
-/// The nanoseconds of one run of a recipe.
-fn run_time(library: Library, words: &[i32], colours: &Colours) -> f64 {
+/// The nanoseconds of one colour.
+fn per_colour<T>(colours: &Colours, work: impl Fn(&[i32]) -> T) -> f64 {
     let time = least(|| {
         for colour in colours.each() {
-            black_box((library.run)(black_box(words), colour)).expect("the colour is answered");
+            black_box(&work(colour));
         }
     });
     time / colours.count()
+}
+
+/// The nanoseconds of one run of a recipe, here and in the second implementation.
+fn run_times(words: &[i32], colours: &Colours) -> [f64; 2] {
+    assert!(colours
+        .each()
+        .all(|colour| sktelbaan::run(words, colour).is_ok()));
+    [
+        per_colour(colours, |colour| sktelbaan::run(black_box(words), colour)),
+        per_colour(colours, |colour| {
+            reference::runner::run(black_box(words), colour)
+        }),
+    ]
 }
 
 /// Runs of recipes, for every family.
 fn runs() {
     println!("| `run` | words | ns per colour | the second implementation |");
     println!("|---|---|---|---|");
+    let [ours, second] = run_times(&[1, 4], &Colours::new(&[(0, ONE)], COLOURS));
+    println!("| the shortest recipe, `1 4` | 2 | {ours:.1} | {second:.1} |");
     for space in spaces() {
         let words = sktelbaan::recipe(&space.page, space.number).expect("the page is accepted");
         let colours = Colours::new(&space.ranges, COLOURS);
-        println!(
-            "| {} | {} | {:.1} | {:.1} |",
-            space.name,
-            words.len(),
-            run_time(PROVED, &words, &colours),
-            run_time(REFERENCE, &words, &colours)
-        );
+        let [ours, second] = run_times(&words, &colours);
+        let (name, count) = (space.name, words.len());
+        println!("| {name} | {count} | {ours:.1} | {second:.1} |");
     }
 }
 
 /// Colours on pages: on as few blocks as the space needs, and on a full page.
 fn evaluations(full: &[u8]) {
-    let evaluate = |library: Library, page: &[u8], number: u32, colours: &Colours| {
-        let time = least(|| {
-            for colour in colours.each() {
-                let answer = (library.evaluate)(black_box(page), number, colour);
-                black_box(answer).expect("the colour is answered");
-            }
-        });
-        time / colours.count()
-    };
     println!("| `evaluate` | blocks | ns per colour | the second implementation |");
     println!("|---|---|---|---|");
     let row = |name: &str, page: &[u8], number, colours: &Colours| {
-        println!(
-            "| {name} | {} | {:.0} | {:.0} |",
-            page.len() / 512,
-            evaluate(PROVED, page, number, colours),
-            evaluate(REFERENCE, page, number, colours)
-        );
+        let answered = |colour: &[i32]| sktelbaan::evaluate(page, number, colour).is_ok();
+        assert!(colours.each().all(answered));
+        let ours = per_colour(colours, |colour| {
+            sktelbaan::evaluate(black_box(page), number, colour)
+        });
+        let second = per_colour(colours, |colour| {
+            reference::colour::evaluate(black_box(page), number, colour)
+        });
+        let blocks = page.len() / 512;
+        println!("| {name} | {blocks} | {ours:.0} | {second:.0} |");
     };
     for space in spaces().iter().filter(|space| space.page.len() == 512) {
         let colours = Colours::new(&space.ranges, 256);
@@ -198,7 +214,7 @@ fn evaluations(full: &[u8]) {
         ("Separation over Lab", 3, vec![unit]),
         ("Indexed over Gray", 4, vec![(0, 255 * ONE)]),
     ] {
-        row(name, full, number, &Colours::new(&ranges, 32));
+        row(name, full, number, &Colours::new(&ranges, 16));
     }
 }
 
@@ -243,12 +259,9 @@ mod lcms {
             .zip(&xyz)
             .map(|(a, b)| (a - b).abs())
             .fold(0.0, f64::max);
-        println!(
-            "| {name} | {:.1} | {:.1} | {:.1} | {apart:.1e} |",
-            run_time(PROVED, &words, &colours),
-            run_time(REFERENCE, &words, &colours),
-            time / COLOURS as f64
-        );
+        let [ours, second] = run_times(&words, &colours);
+        let theirs = time / colours.count();
+        println!("| {name} | {ours:.1} | {second:.1} | {theirs:.1} | {apart:.1e} |");
     }
 
     /// Both rows.
