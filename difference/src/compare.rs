@@ -3,7 +3,7 @@
 
 use crate::{inputs, Difference, Library, Reply, Tally, REFERENCE};
 use reference::cases::hex_of;
-use reference::generate::{random_page, Rng};
+use reference::generate::Rng;
 use sktelbaan::LONGEST;
 use std::fmt::Debug;
 
@@ -39,11 +39,13 @@ fn same<T: PartialEq + Debug>(
 pub fn validate(library: &Library, rng: &mut Rng, pages: u64) -> Result<Tally, Difference> {
     let mut tally = Tally::default();
     for _ in 0..pages {
-        let page = inputs::page(rng);
-        let expected = (REFERENCE.validate)(&page);
-        let reply = (library.validate)(&page);
+        let made = inputs::page(rng);
+        let (bytes, start) = inputs::placed(rng, &made);
+        let page = &bytes[start..];
+        let expected = (REFERENCE.validate)(page);
+        let reply = (library.validate)(page);
         same("validate", &reply, &expected, || {
-            format!("page {}", hex_of(&page))
+            format!("page {}", hex_of(page))
         })?;
         tally.count(&reply);
     }
@@ -54,18 +56,16 @@ pub fn validate(library: &Library, rng: &mut Rng, pages: u64) -> Result<Tally, D
 pub fn evaluate(library: &Library, rng: &mut Rng, colours: u64) -> Result<Tally, Difference> {
     let mut tally = Tally::default();
     while tally.total() < colours {
-        let page = if rng.once_in(4) {
-            inputs::page(rng)
-        } else {
-            random_page(rng)
-        };
+        let made = inputs::page_to_ask(rng);
+        let (bytes, start) = inputs::placed(rng, &made);
+        let page = &bytes[start..];
         for _ in 0..EACH.min(colours - tally.total()) {
-            let number = inputs::number(rng, &page);
-            let colour = inputs::colour_at(rng, &page, number);
-            let expected = (REFERENCE.evaluate)(&page, number, &colour);
-            let reply = (library.evaluate)(&page, number, &colour);
+            let number = inputs::number(rng, page);
+            let colour = inputs::colour_at(rng, page, number);
+            let expected = (REFERENCE.evaluate)(page, number, &colour);
+            let reply = (library.evaluate)(page, number, &colour);
             same("evaluate", &reply, &expected, || {
-                let (words, bytes) = (hex_of_words(&colour), hex_of(&page));
+                let (words, bytes) = (hex_of_words(&colour), hex_of(page));
                 format!("number {number:x} components {words} page {bytes}")
             })?;
             tally.count(&reply);
@@ -124,17 +124,15 @@ pub struct Recipes {
 pub fn recipes(library: &Library, rng: &mut Rng, colours: u64) -> Result<Recipes, Difference> {
     let mut found = Recipes::default();
     while found.run.total() < colours {
-        let page = if rng.once_in(4) {
-            inputs::page(rng)
-        } else {
-            random_page(rng)
-        };
-        let number = inputs::number(rng, &page);
-        let reply = write(library, rng, &page, number, LONGEST)?;
+        let made = inputs::page_to_ask(rng);
+        let (bytes, start) = inputs::placed(rng, &made);
+        let page = &bytes[start..];
+        let number = inputs::number(rng, page);
+        let reply = write(library, rng, page, number, LONGEST)?;
         found.written.count(&reply);
         let Ok(count) = reply else {
             for length in [0, 1, rng.below(LONGEST)] {
-                let reply = write(library, rng, &page, number, length)?;
+                let reply = write(library, rng, page, number, length)?;
                 found.written.count(&reply);
             }
             continue;
@@ -143,21 +141,21 @@ pub fn recipes(library: &Library, rng: &mut Rng, colours: u64) -> Result<Recipes
         let around = count.saturating_sub(2)..=count + 2;
         let below = rng.below(count);
         for length in around.chain([0, 1, below, LONGEST + 1, LONGEST + 500]) {
-            let reply = write(library, rng, &page, number, length)?;
+            let reply = write(library, rng, page, number, length)?;
             found.written.count(&reply);
         }
         // Just the recipe's words, as the library wrote them.
         let mut words = vec![0; count];
-        let again = (library.write_recipe)(&page, number, &mut words);
-        same("write_recipe, again", &again, &reply, || hex_of(&page))?;
+        let again = (library.write_recipe)(page, number, &mut words);
+        same("write_recipe, again", &again, &reply, || hex_of(page))?;
         for _ in 0..EACH.min(colours - found.run.total()) {
-            let colour = inputs::colour_at(rng, &page, number);
-            let expected = (REFERENCE.evaluate)(&page, number, &colour);
+            let colour = inputs::colour_at(rng, page, number);
+            let expected = (REFERENCE.evaluate)(page, number, &colour);
             let input = || {
-                let (words, bytes) = (hex_of_words(&colour), hex_of(&page));
+                let (words, bytes) = (hex_of_words(&colour), hex_of(page));
                 format!("number {number:x} components {words} page {bytes}")
             };
-            let on_page = (library.evaluate)(&page, number, &colour);
+            let on_page = (library.evaluate)(page, number, &colour);
             same("evaluate", &on_page, &expected, input)?;
             let reply = (library.run)(&words, &colour);
             same("a recipe's run against evaluate", &reply, &on_page, input)?;

@@ -19,6 +19,22 @@ pub fn page(rng: &mut Rng) -> Vec<u8> {
     }
 }
 
+/// A page to ask for spaces: most are accepted.
+pub fn page_to_ask(rng: &mut Rng) -> Vec<u8> {
+    if rng.once_in(4) {
+        page(rng)
+    } else {
+        random_page(rng)
+    }
+}
+
+/// A page behind up to seven other bytes, and how many they are, so that it begins at any address.
+pub fn placed(rng: &mut Rng, page: &[u8]) -> (Vec<u8>, usize) {
+    let before = rng.below(8);
+    let bytes = [&[0xa5; 7][..before], page].concat();
+    (bytes, before)
+}
+
 /// A page that was accepted before it was broken in one to three ways.
 pub fn broken_page(rng: &mut Rng) -> Vec<u8> {
     let mut page = random_page(rng);
