@@ -1,3 +1,4 @@
 -- Running the recipe of a space replies what the space replies.
 pub mod Short
 pub mod Spaces
+pub mod Pages

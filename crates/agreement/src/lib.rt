@@ -1,1 +1,13 @@
-// Demand 3: running a recipe is evaluating on the page.
+// Demand 3: a recipe, once written, replies to every colour what the page replies.
+mod compare;
+
+use cie::Answer;
+pub use compare::both;
+use recipe::Written;
+
+// What writing a recipe, running it and evaluating on the page reply.
+pub struct Replies {
+    pub written: Written,
+    pub ran: Answer,
+    pub evaluated: Answer,
+}
