@@ -1,13 +1,13 @@
 -- An accepted page: no refusal is due of its length, nor of any of its blocks.
-use mathlib.Core.Path.{_≡_, refl, sym, _∙_, ap}
+use mathlib.Core.Path.{_≡_, refl, _∙_}
 use mathlib.Core.Bool.{Bool, true, false, cond, _&&_}
 use mathlib.Core.List.{List}
-use Prim.Native.Nat.{ℕ, zero, suc, _+_, _*_, _/_, _%_, _≤_, _<_}
+use Prim.Native.Nat.{ℕ, _+_, _*_, _/_, _≤_, _<_}
 use native.Mathlib.Decide.{decLt}
 use native.Mathlib.Omega.{arith}
-use borrow.Author.Tests.{eqb-true, ltb-true, ltb-false}
+use borrow.Author.Tests.{eqb-true, ltb-true, ltb-false, lt-ltb}
 use lib.Dec.{eqb, ltb}
-use lib.ListN.{length, getD, drop, List·getD-eq-default}
+use lib.ListN.{length, List·getD-eq-default}
 use lib.Seq.{getD-drop}
 use Rattle.fixed.specs.Bytes.{blocks, blockAt, byteAt}
 use Rattle.fixed.proofs.Decide.{cond-ind, and-left, and-right}
@@ -18,7 +18,7 @@ use Rattle.space.specs.Numbers.{kindAt}
 use Rattle.page.specs.Outcomes.{Outcome, accepted, refused}
 use Rattle.page.specs.Validation.{wellSized, faultOne, faultTwo, faultOwed, owedAt, permitted, held, passes, validated}
 use Rattle.page.proofs.Sizes.{sized-whole, sized-most}
-use Rattle.page.proofs.Firsts.{first-none}
+use Rattle.page.proofs.Firsts.{first-none, first-all}
 
 -- a refusal is no acceptance
 never : (k i : ℕ) → refused k i ≡ accepted → ⊥
@@ -29,6 +29,14 @@ passed : (t : Bool) (x k : ℕ) → (k ≡ 0 → ⊥) → cond t x k ≡ 0 → (
 passed true x k h e = (refl, e)
 passed false x k h e = absurd (h e)
 
+-- a number of a kind below 64 is below 64, and that is its block's byte 0
+kind-below : (page : List ℕ) (n k : ℕ) → k < blocks → kindAt page n ≡ k → (n < blocks) × (byteAt (blockAt page n) 0 ≡ k)
+unfolding kindAt
+kind-below page n k m = cond-ind P (ltb n blocks) (λ t z. (ltb-true n blocks t, z)) (λ t z. absurd (omega (arith, ltb-false n blocks t)))
+  where
+    P : ℕ → Type 0
+    P x = x ≡ k → (n < blocks) × (byteAt (blockAt page n) 0 ≡ k)
+
 module _ (page : List ℕ) (ok : validated page ≡ accepted) where
   -- 1 is not due, and neither pass finds a fault
   both-pass : (wellSized (length page) ≡ true) × (passes page (length page / 512) ≡ accepted)
@@ -38,16 +46,20 @@ module _ (page : List ℕ) (ok : validated page ≡ accepted) where
       P : Outcome → Type 0
       P x = x ≡ accepted → (wellSized (length page) ≡ true) × (passes page (length page / 512) ≡ accepted)
 
+  -- its length is 512 x (1..64)
   pub well-sized : wellSized (length page) ≡ true
   well-sized = both-pass .0
 
+  -- no block has a fault of the first pass, nor of the second
   pub none-one : (i : ℕ) → i < length page / 512 → faultOne page i ≡ 0
   none-one = first-none _ refused (faultOne page) accepted never (length page / 512) (both-pass .1) .1
 
   pub none-two : (i : ℕ) → i < length page / 512 → faultTwo page i ≡ 0
-  none-two = first-none accepted refused (faultTwo page) accepted never (length page / 512) (first-none _ refused (faultOne page) accepted never (length page / 512) (both-pass .1) .0) .1
+  none-two =
+      let second = first-none _ refused (faultOne page) accepted never (length page / 512) (both-pass .1) .0 in
+      first-none accepted refused (faultTwo page) accepted never (length page / 512) second .1
 
-  -- a block of the page: its check is right, its kind known and its bytes in form, and it has its own number
+  -- what holds of each block of the page
   module _ (i : ℕ) (l : i < length page / 512) where
     one : (checked (blockAt page i) ≡ true) × ((formed (blockAt page i) && eqb (ownAt (blockAt page i)) i) ≡ true)
     unfolding faultOne
@@ -55,6 +67,7 @@ module _ (page : List ℕ) (ok : validated page ≡ accepted) where
         let a = passed (checked (blockAt page i)) _ 2 (λ e. omega arith) (none-one i l) in
         (a .0, passed (formed (blockAt page i) && eqb (ownAt (blockAt page i)) i) 0 3 (λ e. omega arith) (a .1) .0)
 
+    -- 2 and 3 are not due: its check is right, its kind known and its bytes in form, and it has its own number
     pub checked-at : checked (blockAt page i) ≡ true
     checked-at = one .0
 
@@ -64,10 +77,10 @@ module _ (page : List ℕ) (ok : validated page ≡ accepted) where
     pub own-at : ownAt (blockAt page i) ≡ i
     own-at = eqb-true _ _ (and-right (formed (blockAt page i)) _ (one .1))
 
+    -- its number is one that a block can have
     pub below-most : i < blocks
     below-most = omega (arith, sized-most _ well-sized)
 
-    -- its numbers are lawful and supported, its reference permitted, and what it holds is in order
     two : (lawful (bodyAt (blockAt page i)) ≡ true) × (supported (bodyAt (blockAt page i)) ≡ true)
         × (permitted page (bodyAt (blockAt page i)) ≡ true) × (held page i (owedAt page i) (bodyAt (blockAt page i)) ≡ true)
     unfolding faultTwo faultOwed
@@ -78,6 +91,7 @@ module _ (page : List ℕ) (ok : validated page ≡ accepted) where
         let d = passed (held page i (owedAt page i) (bodyAt (blockAt page i))) _ 7 (λ e. omega arith) (c .1) in
         (a .0, b .0, c .0, d .0)
 
+    -- 4 to 7 are not due: its numbers are lawful and supported, its reference permitted, and what it holds is in order
     pub lawful-at : lawful (bodyAt (blockAt page i)) ≡ true
     lawful-at = two .0
 
@@ -96,14 +110,27 @@ module _ (page : List ℕ) (ok : validated page ≡ accepted) where
       let o : length page ≤ 512 * n + 0 = omega (arith, sized-whole _ well-sized) in
       getD-drop (512 * n) page 0 0 ∙ List·getD-eq-default page 0 o
 
-  -- a number of a kind that a block can have, other than 0, is a block of the page, and its kind is the block's
-  pub on-page : (n k : ℕ) → kindAt page n ≡ k → 0 < k → k < blocks → (n < length page / 512) × (byteAt (blockAt page n) 0 ≡ k)
+  -- a block that the page does not have is of kind 0, so a number below 64 of another kind is a block of the page
+  pub kind-past : (n : ℕ) → length page / 512 ≤ n → n < blocks → kindAt page n ≡ 0
   unfolding kindAt
-  on-page n k e s m = cond-ind P (ltb n blocks) (λ t z. (within (decLt n (length page / 512)) z, z)) (λ t z. absurd (omega (arith, ltb-false n blocks t))) e
-    where
-      P : ℕ → Type 0
-      P x = x ≡ k → (n < length page / 512) × (byteAt (blockAt page n) 0 ≡ k)
+  kind-past n l m = simp (lt-ltb n blocks m) (past n l)
 
-      within : Dec (n < length page / 512) → byteAt (blockAt page n) 0 ≡ k → n < length page / 512
-      within (yes h) z = h
-      within (no h) z = let w : byteAt (blockAt page n) 0 ≡ 0 = past n (omega arith) in absurd (omega arith)
+  pub on-page : (n : ℕ) → n < blocks → (kindAt page n ≡ 0 → ⊥) → n < length page / 512
+  on-page n m h = within (decLt n (length page / 512))
+    where
+      within : Dec (n < length page / 512) → n < length page / 512
+      within (yes w) = w
+      within (no w) = absurd (h (kind-past n (omega arith) m))
+
+  -- a number whose kind is 1 to 63 is a block of the page, and that is its byte 0
+  pub kind-block : (n k : ℕ) → kindAt page n ≡ k → 0 < k → k < blocks → (n < length page / 512) × (byteAt (blockAt page n) 0 ≡ k)
+  kind-block n k e s m = (on-page n (below .0) (λ z. omega arith), below .1)
+    where
+      below : (n < blocks) × (byteAt (blockAt page n) 0 ≡ k)
+      below = kind-below page n k m e
+
+-- accepted is every page of a right length with no fault in its blocks
+pub accepted-where : (page : List ℕ) → wellSized (length page) ≡ true → ((i : ℕ) → i < length page / 512 → faultOne page i ≡ 0)
+    → ((i : ℕ) → i < length page / 512 → faultTwo page i ≡ 0) → validated page ≡ accepted
+unfolding validated
+accepted-where page s f g = rw s (first-all _ refused (faultOne page) (length page / 512) f ∙ first-all accepted refused (faultTwo page) (length page / 512) g)

@@ -1,5 +1,5 @@
 -- Where the search for the first fault ends in what no fault gives, no block has a fault; and where none has, it ends so.
-use mathlib.Core.Path.{_≡_, refl, _∙_, ap}
+use mathlib.Core.Path.{_≡_, refl}
 use Prim.Native.Nat.{ℕ, zero, suc, _+_, _<_}
 use native.Mathlib.Nat.{add-zero}
 use native.Mathlib.Omega.{arith}
@@ -26,6 +26,7 @@ module _ {A : Type 0} (none : A) (refused : ℕ → ℕ → A) (f : ℕ → ℕ)
         P : A → Type 0
         P x = x ≡ y → (none ≡ y) × ((k : ℕ) → k < suc n → f (i + k) ≡ 0)
 
+    -- no fault was found, so there is none, and what follows the search is y
     pub first-none : (n : ℕ) → firstFrom none refused f 0 n ≡ y → (none ≡ y) × ((i : ℕ) → i < n → f i ≡ 0)
     first-none n e =
         let r = from-none n 0 e in
@@ -38,5 +39,6 @@ module _ {A : Type 0} (none : A) (refused : ℕ → ℕ → A) (f : ℕ → ℕ)
       let e : f i ≡ 0 = rw (add-zero i) at (h 0 (omega arith)) in
       rw (eq-eqb _ _ e) (from-all n (suc i) (λ k l. let p : i + suc k ≡ suc i + k = omega arith in rw p at (h (suc k) (omega arith))))
 
+  -- where there is no fault, none is found
   pub first-all : (n : ℕ) → ((i : ℕ) → i < n → f i ≡ 0) → firstFrom none refused f 0 n ≡ none
   first-all n h = from-all n 0 (λ k l. let p : 0 + k ≡ k = omega arith in rw p (h k l))

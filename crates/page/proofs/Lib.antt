@@ -4,3 +4,6 @@ pub mod Firsts
 pub mod Accepted
 pub mod Permits
 pub mod Wholes
+pub mod Bytes
+pub mod Alone
+pub mod Empty

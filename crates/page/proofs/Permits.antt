@@ -1,11 +1,11 @@
 -- A reference to a permitted kind: it falls in rank, so it is the space within, and that has components.
-use mathlib.Core.Path.{_≡_, refl, sym, subst, _∙_}
+use mathlib.Core.Path.{_≡_, refl, sym, subst}
 use mathlib.Core.Bool.{Bool, true, false, _||_, cond}
 use mathlib.Core.List.{List}
 use Prim.Native.Nat.{ℕ, _≤_, _<_}
 use native.Mathlib.Omega.{arith}
 use borrow.Author.Tests.{eqb-true, lt-ltb}
-use lib.Dec.{eqb, ltb}
+use lib.Dec.{eqb}
 use Rattle.fixed.specs.Bytes.{grayCode, rgbCode, cmykCode}
 use Rattle.space.specs.Numbers.{kindAt, rankAt, referenceAt, innerAt}
 use Rattle.space.specs.Spaces.{countOf}
@@ -13,6 +13,7 @@ use Rattle.space.specs.Pages.{plainBy, tintedBy, spaceBy, spaceAt}
 use Rattle.space.proofs.Ranks.{rank-indexed, rank-separation}
 use Rattle.page.specs.Validation.{alternateKind, baseKind}
 
+-- one of two tests passed
 or-ind : {C : Type 0} (s t : Bool) → (s || t) ≡ true → (s ≡ true → C) → (t ≡ true → C) → C
 or-ind true t h f g = f refl
 or-ind false t h f g = g h
@@ -55,6 +56,7 @@ module _ (page : List ℕ) where
   inner-is n l = simp (lt-ltb _ _ l)
 
   module _ (n : ℕ) where
+    -- the reference is the number of the space within
     pub alternate-inner : kindAt page n ≡ 5 → alternateKind (kindAt page (referenceAt page n)) ≡ true → innerAt page n ≡ referenceAt page n
     alternate-inner k h =
         let r = rank-separation page n k in

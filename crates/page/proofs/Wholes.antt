@@ -2,28 +2,27 @@
 use mathlib.Core.Path.{_≡_, refl, sym, subst, _∙_}
 use mathlib.Core.Bool.{Bool, true, false, true≢false}
 use mathlib.Core.List.{List}
-use Prim.Native.Nat.{ℕ, _+_, _*_, _≤_, _<_}
+use Prim.Native.Nat.{ℕ, _≤_, _<_}
 use native.Mathlib.Omega.{arith}
 use borrow.Author.Tests.{eqb-true, eqb-false, leb-true, le-ltb}
 use lib.Dec.{eqb}
 use lib.IntN.{ℤ, pos, negsuc}
 use lib.Signed.{ltZ, leZ}
-use Rattle.fixed.specs.Bytes.{grayCode, rgbCode, cmykCode, blockAt, numberAt}
+use Rattle.fixed.specs.Bytes.{blocks, grayCode, rgbCode, cmykCode, blockAt, numberAt}
 use Rattle.fixed.specs.Numbers.{exponentSupported, gammaSupported}
 use Rattle.fixed.proofs.Decide.{cond-ind, and-left, and-right}
 use Rattle.record.specs.Reading.{tripleAt, bodyBy}
 use Rattle.record.specs.Rules.{whitePoint, blackPoint, ordered, lawful, supported}
-use Rattle.record.specs.declared.types.Body.{Body}
 use Rattle.space.specs.Numbers.{kindAt, referenceAt, innerAt, hivalAt, exponentAt, rankAt}
 use Rattle.space.specs.Spaces.{Space, countOf}
-use Rattle.space.specs.Pages.{plainBy, plainAt, spaceAt}
+use Rattle.space.specs.Pages.{plainBy, spaceAt}
 use Rattle.space.specs.Wholes.{Whole, rankOf}
 use Rattle.space.proofs.Ranks.{rank-indexed, rank-separation, no-indexed, no-separation, inner-falls}
 use Rattle.space.proofs.Levels.{at-indexed, at-separation, at-plain}
 use Rattle.space.proofs.Counts.{table-length, c0-length, c1-length}
 use Rattle.page.specs.Outcomes.{accepted}
 use Rattle.page.specs.Validation.{alternateKind, baseKind, permitted, validated}
-use Rattle.page.proofs.Accepted.{on-page, lawful-at, supported-at, permitted-at}
+use Rattle.page.proofs.Accepted.{kind-block, lawful-at, supported-at, permitted-at}
 use Rattle.page.proofs.Permits.{alternate-some, base-some}
 
 -- What an accepted page gives for the numbers of each kind.
@@ -44,6 +43,7 @@ pub record Good (page : List ℕ) : Type 0 where
   pub alternate : (n : ℕ) → kindAt page n ≡ 5 → alternateKind (kindAt page (referenceAt page n)) ≡ true
   pub alternate-count : (n : ℕ) → kindAt page n ≡ 5 → 1 ≤ countOf (spaceAt page (innerAt page n))
 
+-- what is at most b has no b below it
 not-above : (a b : ℤ) → leZ a b ≡ true → ltZ b a ≡ false
 not-above (pos a) (pos b) h = le-ltb b a (leb-true a b h)
 not-above (pos a) (negsuc b) h = absurd (true≢false (sym h))
@@ -52,15 +52,21 @@ not-above (negsuc a) (negsuc b) h = le-ltb a b (leb-true b a h)
 
 module _ (page : List ℕ) (ok : validated page ≡ accepted) where
   -- what the second pass says of the body of a block of kind k
-  module _ (n k : ℕ) (e : kindAt page n ≡ k) (s : 0 < k) (m : k < 64) where
+  module _ (n k : ℕ) (e : kindAt page n ≡ k) (s : 0 < k) (m : k < blocks) where
     is-lawful : lawful (bodyBy k (blockAt page n)) ≡ true
-    is-lawful = let p = on-page page ok n k e s m in subst (λ (j : ℕ). lawful (bodyBy j (blockAt page n)) ≡ true) (p .1) (lawful-at page ok n (p .0))
+    is-lawful =
+        let p = kind-block page ok n k e s m in
+        subst (λ (j : ℕ). lawful (bodyBy j (blockAt page n)) ≡ true) (p .1) (lawful-at page ok n (p .0))
 
     is-supported : supported (bodyBy k (blockAt page n)) ≡ true
-    is-supported = let p = on-page page ok n k e s m in subst (λ (j : ℕ). supported (bodyBy j (blockAt page n)) ≡ true) (p .1) (supported-at page ok n (p .0))
+    is-supported =
+        let p = kind-block page ok n k e s m in
+        subst (λ (j : ℕ). supported (bodyBy j (blockAt page n)) ≡ true) (p .1) (supported-at page ok n (p .0))
 
     is-permitted : permitted page (bodyBy k (blockAt page n)) ≡ true
-    is-permitted = let p = on-page page ok n k e s m in subst (λ (j : ℕ). permitted page (bodyBy j (blockAt page n)) ≡ true) (p .1) (permitted-at page ok n (p .0))
+    is-permitted =
+        let p = kind-block page ok n k e s m in
+        subst (λ (j : ℕ). permitted page (bodyBy j (blockAt page n)) ≡ true) (p .1) (permitted-at page ok n (p .0))
 
   gamma-at : (n : ℕ) → kindAt page n ≡ 1 → gammaSupported (numberAt (blockAt page n) 28) ≡ true
   unfolding bodyBy supported
@@ -102,6 +108,7 @@ module _ (page : List ℕ) (ok : validated page ≡ accepted) where
   unfolding bodyBy permitted
   alternate-at n e = is-permitted n 5 e (omega arith) (omega arith)
 
+  -- an accepted page has them all
   pub good : Good page
   good =
       record {
@@ -118,7 +125,7 @@ module _ (page : List ℕ) (ok : validated page ≡ accepted) where
 
 -- ---- the space at a number is whole, by its kind
 
--- what is shown of a plain space, and of one that is no Indexed
+-- what is shown of a plain space
 abbrev Plain : Space → Type 0
 Plain s = 1 ≤ countOf s → Whole s × (rankOf s < 1)
 
@@ -167,5 +174,6 @@ module _ (page : List ℕ) (g : Good page) where
       by-kind true t = indexed-whole n (eqb-true _ _ t)
       by-kind false t = tinted-whole n (eqb-false _ _ t) h .0
 
+-- every number, device codes among them, whose space has components: so all but those that are refused with 8
 pub whole-at : (page : List ℕ) (n : ℕ) → validated page ≡ accepted → 1 ≤ countOf (spaceAt page n) → Whole (spaceAt page n)
 whole-at page n ok h = whole-by page (good page ok) n h

@@ -67,6 +67,7 @@ fn less(x: u32) -> u32
     if x == 0 { 0 } else { x - 1 }
 }
 
+// Whether the bytes of block n from `from` to below `to` are zero.
 fn zero_between(page: &[u8], n: u32, from: u32, to: u32) -> bool
     ensures { λ r. ⌜ r ≡ zeroBetween (blockAt (now (page .entry)) n) from to ⌝ }
 {
@@ -80,6 +81,7 @@ fn zero_between(page: &[u8], n: u32, from: u32, to: u32) -> bool
     true
 }
 
+// Whether the blocks from `from` to below `to` are all palette blocks.
 fn all_palettes(page: &[u8], from: u32, to: u32) -> bool
     ensures { λ r. ⌜ r ≡ palettes (now (page .entry)) from to ⌝ }
 {

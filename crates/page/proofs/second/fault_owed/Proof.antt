@@ -24,23 +24,42 @@ holds-requires c κs = search needs
 
 returns : tie.Need-returns
 unfolding faultOwed
-returns c = is-no _ _ _ _ (c .before .before .before .before .is-lawful .ensures ∙ ap lawful (c .before .before .before .before .before .body-at .ensures)) (not-true _ (c .if1 .taken)) refl
+returns c =
+    let e = c .before .before .before .before .before .body-at .ensures in
+    is-no _ _ _ _ (c .before .before .before .before .is-lawful .ensures ∙ ap lawful e) (not-true _ (c .if1 .taken)) refl
 
 returns-2 : tie.Need-returns-2
 unfolding faultOwed
-returns-2 c = is-yes _ _ _ _ (c .before .before .before .before .before .is-lawful .ensures ∙ ap lawful (c .before .before .before .before .before .before .body-at .ensures)) (not-false _ (c .before .if1 .left)) (is-no _ _ _ _ (c .before .before .before .before .is-supported .ensures ∙ ap supported (c .before .before .before .before .before .before .body-at .ensures)) (not-true _ (c .if2 .taken)) refl)
+returns-2 c =
+    let e = c .before .before .before .before .before .before .body-at .ensures in
+    is-yes _ _ _ _ (c .before .before .before .before .before .is-lawful .ensures ∙ ap lawful e) (not-false _ (c .before .if1 .left))
+    (is-no _ _ _ _ (c .before .before .before .before .is-supported .ensures ∙ ap supported e) (not-true _ (c .if2 .taken)) refl)
 
 returns-3 : tie.Need-returns-3
 unfolding faultOwed
-returns-3 c = is-yes _ _ _ _ (c .before .before .before .before .before .before .is-lawful .ensures ∙ ap lawful (c .before .before .before .before .before .before .before .body-at .ensures)) (not-false _ (c .before .before .if1 .left)) (is-yes _ _ _ _ (c .before .before .before .before .before .is-supported .ensures ∙ ap supported (c .before .before .before .before .before .before .before .body-at .ensures)) (not-false _ (c .before .if2 .left)) (is-no _ _ _ _ (c .before .before .before .before .permits .ensures ∙ ap (permitted _) (c .before .before .before .before .before .before .before .body-at .ensures)) (not-true _ (c .if3 .taken)) refl))
+returns-3 c =
+    let e = c .before .before .before .before .before .before .before .body-at .ensures in
+    is-yes _ _ _ _ (c .before .before .before .before .before .before .is-lawful .ensures ∙ ap lawful e) (not-false _ (c .before .before .if1 .left))
+    (is-yes _ _ _ _ (c .before .before .before .before .before .is-supported .ensures ∙ ap supported e) (not-false _ (c .before .if2 .left))
+    (is-no _ _ _ _ (c .before .before .before .before .permits .ensures ∙ ap (permitted _) e) (not-true _ (c .if3 .taken)) refl))
 
 returns-4 : tie.Need-returns-4
 unfolding faultOwed
-returns-4 c = is-yes _ _ _ _ (c .before .before .before .before .before .before .before .is-lawful .ensures ∙ ap lawful (c .before .before .before .before .before .before .before .before .body-at .ensures)) (not-false _ (c .before .before .before .if1 .left)) (is-yes _ _ _ _ (c .before .before .before .before .before .before .is-supported .ensures ∙ ap supported (c .before .before .before .before .before .before .before .before .body-at .ensures)) (not-false _ (c .before .before .if2 .left)) (is-yes _ _ _ _ (c .before .before .before .before .before .permits .ensures ∙ ap (permitted _) (c .before .before .before .before .before .before .before .before .body-at .ensures)) (not-false _ (c .before .if3 .left)) (is-no _ _ _ _ (c .before .before .before .before .holds .ensures ∙ ap (held _ _ _) (c .before .before .before .before .before .before .before .before .body-at .ensures)) (not-true _ (c .if4 .taken)) refl)))
+returns-4 c =
+    let e = c .before .before .before .before .before .before .before .before .body-at .ensures in
+    is-yes _ _ _ _ (c .before .before .before .before .before .before .before .is-lawful .ensures ∙ ap lawful e) (not-false _ (c .before .before .before .if1 .left))
+    (is-yes _ _ _ _ (c .before .before .before .before .before .before .is-supported .ensures ∙ ap supported e) (not-false _ (c .before .before .if2 .left))
+    (is-yes _ _ _ _ (c .before .before .before .before .before .permits .ensures ∙ ap (permitted _) e) (not-false _ (c .before .if3 .left))
+    (is-no _ _ _ _ (c .before .before .before .before .holds .ensures ∙ ap (held _ _ _) e) (not-true _ (c .if4 .taken)) refl)))
 
 returns-5 : tie.Need-returns-5
 unfolding faultOwed
-returns-5 c = is-yes _ _ _ _ (c .before .before .before .before .before .before .before .is-lawful .ensures ∙ ap lawful (c .before .before .before .before .before .before .before .before .body-at .ensures)) (not-false _ (c .before .before .before .if1 .left)) (is-yes _ _ _ _ (c .before .before .before .before .before .before .is-supported .ensures ∙ ap supported (c .before .before .before .before .before .before .before .before .body-at .ensures)) (not-false _ (c .before .before .if2 .left)) (is-yes _ _ _ _ (c .before .before .before .before .before .permits .ensures ∙ ap (permitted _) (c .before .before .before .before .before .before .before .before .body-at .ensures)) (not-false _ (c .before .if3 .left)) (is-yes _ _ _ _ (c .before .before .before .before .holds .ensures ∙ ap (held _ _ _) (c .before .before .before .before .before .before .before .before .body-at .ensures)) (not-false _ (c .if4 .left)) refl)))
+returns-5 c =
+    let e = c .before .before .before .before .before .before .before .before .body-at .ensures in
+    is-yes _ _ _ _ (c .before .before .before .before .before .before .before .is-lawful .ensures ∙ ap lawful e) (not-false _ (c .before .before .before .if1 .left))
+    (is-yes _ _ _ _ (c .before .before .before .before .before .before .is-supported .ensures ∙ ap supported e) (not-false _ (c .before .before .if2 .left))
+    (is-yes _ _ _ _ (c .before .before .before .before .before .permits .ensures ∙ ap (permitted _) e) (not-false _ (c .before .if3 .left))
+    (is-yes _ _ _ _ (c .before .before .before .before .holds .ensures ∙ ap (held _ _ _) e) (not-false _ (c .if4 .left)) refl)))
 
 pub fault-owed-spec : {M : Type 1} → statement M
 fault-owed-spec =

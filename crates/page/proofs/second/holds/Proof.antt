@@ -1,5 +1,5 @@
 -- `holds`: an Indexed block has a run after it, a Separation zeros past its counts, and a palette block is claimed.
-use mathlib.Core.Path.{refl, ap, _∙_}
+use mathlib.Core.Path.{ap, _∙_}
 use Rattle.page.specs.Validation.{runHeld, unusedZero, held}
 use borrow.Author.Needs.{needs}
 use Rattle.page.proofs.second.holds.Statement.{statement}

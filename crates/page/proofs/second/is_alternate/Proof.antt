@@ -1,7 +1,6 @@
 -- `is_alternate`: its tests are those of the definition.
 use mathlib.Core.Path.{refl}
 use Rattle.page.specs.Validation.{alternateKind}
-use borrow.Author.Needs.{needs}
 use Rattle.page.proofs.second.is_alternate.Statement.{statement}
 use Rattle.page.proofs.second.is_alternate.Tie as tie
 

@@ -1,8 +1,19 @@
--- `run_held`: its scans are those of the definition.
-use Rattle.page.specs.Validation.{runHeld}
+-- `run_held`: its scans are those of the definition, from the same block to the same and from the same byte on.
+use mathlib.Core.Path.{_≡_}
+use mathlib.Core.Bool.{Bool, _&&_}
+use mathlib.Core.List.{List}
+use Prim.Native.Nat.{ℕ, _+_, _-_, _*_}
+use Rattle.fixed.specs.Bytes.{blockAt}
+use Rattle.fixed.specs.Loops.{zeroBetween}
+use Rattle.page.specs.Validation.{runLength, palettes, runHeld}
 use borrow.Author.Needs.{needs}
 use Rattle.page.proofs.second.run_held.Statement.{statement}
 use Rattle.page.proofs.second.run_held.Tie as tie
+
+both-held : (page : List ℕ) (i size n m : ℕ) {a b : Bool} → n ≡ runLength size → m ≡ n - 1 → a ≡ palettes page (i + 1) (i + 1 + n)
+    → b ≡ zeroBetween (blockAt page (i + n)) (4 + (size - 504 * m)) 508 → (a && b) ≡ runHeld page i size
+unfolding runHeld
+both-held page i size n m e f g h = rw (g, h, f, e)
 
 run-length-requires : tie.Need-run-length-requires
 run-length-requires c κs = search needs
@@ -38,8 +49,7 @@ zero-between-requires : tie.Need-zero-between-requires
 zero-between-requires c κs = search needs
 
 returns : tie.Need-returns
-unfolding runHeld
-returns c = cc
+returns c = both-held _ _ _ _ _ (c .before .before .before .run-length .ensures) (c .before .before .less .ensures) (c .before .all-palettes .ensures) (c .zero-between .ensures)
 
 pub run-held-spec : {M : Type 1} → statement M
 run-held-spec =

@@ -1,0 +1,94 @@
+-- Each block of an accepted page, taken by itself, is a block that nothing is refused of.
+use mathlib.Core.Path.{_≡_, refl, sym, ap, _∙_}
+use mathlib.Core.Bool.{Bool, true, false, _&&_, _||_, true≢false, cond}
+use mathlib.Core.List.{List}
+use Prim.Native.Nat.{ℕ, _*_, _/_, _≤_, _<_}
+use native.Mathlib.Omega.{arith}
+use borrow.Author.Tests.{lt-ltb}
+use lib.Dec.{ltb}
+use lib.ListN.{length, drop, length-drop}
+use lib.Seq.{length-take-le}
+use Rattle.fixed.specs.Bytes.{blocks, device}
+use Rattle.fixed.proofs.Decide.{and-left, and-right, both}
+use Rattle.record.specs.Layout.{checked}
+use Rattle.record.specs.Reading.{ownAt, bodyAt, recordAt}
+use Rattle.record.specs.Rules.{known, shaped, lawful, supported, refers, faultOf, faultAt}
+use Rattle.record.specs.declared.types.Body.{Body}
+use Rattle.record.specs.declared.types.Body.the-variants.{Free, CalGray, CalRgb, Lab, Indexed, Separation, Palette}
+use Rattle.record.proofs.Shapes.{formed-shaped}
+use Rattle.space.specs.Numbers.{kindAt}
+use Rattle.page.specs.Outcomes.{accepted}
+use Rattle.page.specs.Validation.{alternateKind, baseKind, permitted, validated}
+use Rattle.page.proofs.Sizes.{sized-whole}
+use Rattle.page.proofs.Accepted.{well-sized, checked-at, formed-at, own-at, below-most, lawful-at, supported-at, permitted-at}
+use Rattle.page.proofs.Permits.{alternate-ind, base-ind}
+use Rattle.page.proofs.Bytes.{ownBytes, checked-within, formed-within, own-within, body-within}
+
+-- none of five tests refuses
+none-due : (a b c d e : Bool) → a ≡ true → b ≡ true → c ≡ true → d ≡ true → e ≡ true → _≡_ {A = ℕ} (cond a (cond b (cond c (cond d (cond e 0 6) 5) 4) 3) 3) 0
+none-due a b c d e h₁ h₂ h₃ h₄ h₅ = rw (h₁, h₂, h₃, h₄, h₅)
+
+or-right : (a : Bool) {b : Bool} → b ≡ true → (a || b) ≡ true
+or-right true e = refl
+or-right false e = e
+
+-- a number of a kind permitted is a device code or one that a block can have
+module _ (page : List ℕ) (b : ℕ) where
+  -- of a number that can be no block's, a kind permitted is a device code
+  Coded : ℕ → Type 0
+  Coded k = ltb k blocks ≡ false → device k ≡ true
+
+  referring : (t : Bool) → ltb b blocks ≡ t → (ltb b blocks ≡ false → device b ≡ true) → (device b || ltb b blocks) ≡ true
+  referring true e h = or-right (device b) e
+  referring false e h = rw (h e)
+
+  pub base-refers : baseKind (kindAt page b) ≡ true → (device b || ltb b blocks) ≡ true
+  unfolding kindAt Coded
+  base-refers h =
+      referring (ltb b blocks) refl (λ e.
+      base-ind Coded (λ _. refl) (λ _. refl) (λ _. refl) (λ z. absurd (true≢false z)) (λ z. absurd (true≢false z)) (λ z. absurd (true≢false z))
+      (λ z. absurd (true≢false z)) b (rw e at h) e)
+
+  pub alternate-refers : alternateKind (kindAt page b) ≡ true → (device b || ltb b blocks) ≡ true
+  unfolding kindAt Coded
+  alternate-refers h =
+      referring (ltb b blocks) refl (λ e.
+      alternate-ind Coded (λ _. refl) (λ _. refl) (λ _. refl) (λ z. absurd (true≢false z)) (λ z. absurd (true≢false z)) (λ z. absurd (true≢false z))
+      b (rw e at h) e)
+
+-- a body that is permitted on a page refers as a body may alone
+pub permitted-refers : (page : List ℕ) (y : Body) → permitted page y ≡ true → refers y ≡ true
+unfolding permitted refers
+permitted-refers page Free h = refl
+permitted-refers page (CalGray g) h = refl
+permitted-refers page (CalRgb g) h = refl
+permitted-refers page (Lab g) h = refl
+permitted-refers page (Indexed base hival) h = base-refers page base h
+permitted-refers page (Separation p) h = alternate-refers page (p .alternate) h
+permitted-refers page Palette h = refl
+
+module _ (page : List ℕ) (ok : validated page ≡ accepted) (i : ℕ) (l : i < length page / 512) where
+  -- it has 512 bytes
+  pub alone-length : length (ownBytes page i) ≡ 512
+  alone-length =
+      let m : 512 ≤ length (drop (512 * i) page) = omega (arith, length-drop (512 * i) page, sized-whole _ (well-sized page ok)) in
+      length-take-le 512 (drop (512 * i) page) m
+
+  -- 2 is not due
+  pub alone-checked : checked (ownBytes page i) ≡ true
+  alone-checked = sym (checked-within page i) ∙ checked-at page ok i l
+
+  shape : (known (ownBytes page i) && shaped (recordAt (ownBytes page i))) ≡ true
+  shape =
+      let o : ownAt (ownBytes page i) ≡ i = sym (own-within page i) ∙ own-at page ok i l in
+      let n : ltb (ownAt (ownBytes page i)) blocks ≡ true = rw o (lt-ltb i blocks (below-most page ok i l)) in
+      sym (formed-shaped (ownBytes page i)) ∙ both (sym (formed-within page i) ∙ formed-at page ok i l) n
+
+  -- nor 3, 4, 5 or 6
+  pub alone-clean : faultAt (ownBytes page i) ≡ 0
+  unfolding faultAt faultOf recordAt
+  alone-clean =
+      let e = sym (body-within page i) in
+      none-due (known (ownBytes page i)) (shaped (recordAt (ownBytes page i))) (lawful (bodyAt (ownBytes page i))) (supported (bodyAt (ownBytes page i)))
+      (refers (bodyAt (ownBytes page i))) (and-left (known (ownBytes page i)) _ shape) (and-right (known (ownBytes page i)) _ shape)
+      (ap lawful e ∙ lawful-at page ok i l) (ap supported e ∙ supported-at page ok i l) (ap refers e ∙ permitted-refers page _ (permitted-at page ok i l))
