@@ -378,7 +378,7 @@ pub const COLOUR_CASES: Group = Group {
 pub const GROUPS: [Group; 3] = [BLOCK_CASES, PAGE_CASES, COLOUR_CASES];
 
 /// The groups that are put to the program without being asked for.
-const ON: &[Group] = &[];
+const ON: &[Group] = &[BLOCK_CASES, PAGE_CASES, COLOUR_CASES];
 
 /// The white point of the paper's examples, X and Z: 0.9505 and 1.089.
 const XW: i32 = 950_500;

@@ -12,7 +12,7 @@ pub struct Number {
 
 // The numbers of a case, 0 past the last, and the place after them.
 pub struct Numbers {
-    pub values: [i32; 16],
+    pub values: [i32; 24],
     pub next: usize,
 }
 
@@ -80,10 +80,10 @@ fn number_at(s: &[u8], at: usize) -> Number {
 
 // The numbers from `at` on, each after a space, up to the bytes or the line's end.
 pub fn numbers_at(s: &[u8], at: usize) -> Numbers {
-    let mut values = [0i32; 16];
+    let mut values = [0i32; 24];
     let mut next = at;
     let mut i: usize = 0;
-    while i < 16 {
+    while i < 24 {
         if s.len() <= next {
             return Numbers { values, next };
         }

@@ -4,9 +4,11 @@
 //
 // The numbers are decimal; the bytes are two hexadecimal digits each, or a full stop for a zero byte. The reference implementation writes the input and
 // what is expected of each line.
+mod blocks;
 mod input;
 mod numbers;
 mod output;
+mod pages;
 mod run;
 mod steps;
 

@@ -40,7 +40,7 @@ fn bytes_case(v: i32) {
 }
 
 // Operations 1 to 9: limit, index, palette value, tint power, tint value, float; a number of two bytes, of four, and the bytes of a number.
-pub fn number_case(op: u32, v: [i32; 16], bytes: &[u8]) {
+pub fn number_case(op: u32, v: [i32; 24], bytes: &[u8]) {
     match op {
         1 => say_number(limit(v[1], v[2], v[3])),
         2 => say_size(round_index(v[1], of_signed(v[2]))),

@@ -25,6 +25,29 @@ pub fn say_size(n: u32) {
     io::print_decimal(STDOUT_FILENO, n as u64);
 }
 
+// Writes a space, and a whole number.
+pub fn say_next(v: i32) {
+    say(b" ");
+    say_number(v);
+}
+
+// Writes bytes, each as its two hexadecimal digits, or a full stop where it is zero.
+pub fn say_dotted(s: &[u8]) {
+    let mut i: usize = 0;
+    while i < s.len() {
+        say_one(s[i]);
+        i += 1;
+    }
+}
+
+fn say_one(x: u8) {
+    if x == 0 {
+        say(b".");
+        return;
+    }
+    io::print_hex(STDOUT_FILENO, x as u64, 2);
+}
+
 // Writes bytes, each as its two hexadecimal digits.
 pub fn say_bytes(s: &[u8]) {
     let mut i: usize = 0;

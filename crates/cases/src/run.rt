@@ -1,9 +1,11 @@
 // A case, which stands in a line.
+use crate::blocks::block_case;
 use crate::input::bytes_at;
 use crate::input::find;
 use crate::input::numbers_at;
 use crate::numbers::number_case;
 use crate::output::say;
+use crate::pages::page_case;
 use crate::steps::step_case;
 use fixed::of_signed;
 
@@ -20,7 +22,15 @@ fn case(s: &[u8], at: usize, room: &mut [u8]) {
         number_case(op, v, &room[..n]);
         return;
     }
-    step_case(op, v);
+    if op < 20 {
+        step_case(op, v);
+        return;
+    }
+    if op < 30 {
+        block_case(op, v, &room[..n]);
+        return;
+    }
+    page_case(op, v, &room[..n]);
 }
 
 // Runs the case of a line, and writes its label and what comes of it.

@@ -15,7 +15,7 @@ fn decoded(v: i32, gamma: i32) -> f64 {
     decode(float_of(v), of_signed(gamma))
 }
 
-fn rgb_case(v: [i32; 16]) {
+fn rgb_case(v: [i32; 24]) {
     let m = matrix(v[4], v[5], v[6], v[7], v[8], v[9], v[10], v[11], v[12]);
     let a = decoded(v[13], v[1]);
     let b = decoded(v[14], v[2]);
@@ -24,7 +24,7 @@ fn rgb_case(v: [i32; 16]) {
 }
 
 // Operations 10 to 13: decode, CalGray, CalRGB and Lab. The components are as they stand, and gammas are in units.
-pub fn step_case(op: u32, v: [i32; 16]) {
+pub fn step_case(op: u32, v: [i32; 24]) {
     match op {
         10 => say_float(decoded(v[1], v[2])),
         11 => say_xyz(gray(white(v[1], v[2]), decoded(v[4], v[3]))),

@@ -2,17 +2,17 @@
 ghost use mathlib.Core.Path.{_≡_};
 ghost use Prim.Native.Nat.{_-_, _<_, _≤_};
 ghost use Rattle.fixed.specs.Bytes.{blocks, blockAt};
-ghost use Rattle.fixed.specs.Loops.{zeroBetween, firstFrom};
+ghost use Rattle.fixed.specs.Loops.{firstFrom};
 ghost use Rattle.page.specs.Outcomes.{accepted, refused, meaning};
 ghost use Rattle.page.specs.Validation.{alternateKind, baseKind, permitted, paletteSize, runLength, palettes, runHeld, unusedZero, owedAfter, held, faultOwed, faultTwo};
 ghost use Rattle.record.specs.Reading.{bodyAt};
 use crate::Verdict;
-use fixed::byte;
 use fixed::two;
 use record::Body;
 use record::body_at;
 use record::is_lawful;
 use record::is_supported;
+use record::zero_between;
 use space::components;
 use space::kind;
 
@@ -68,20 +68,6 @@ fn less(x: u32) -> u32
 }
 
 // Whether the bytes of block n from `from` to below `to` are zero.
-fn zero_between(page: &[u8], n: u32, from: u32, to: u32) -> bool
-    ensures { λ r. ⌜ r ≡ zeroBetween (blockAt (now (page .entry)) n) from to ⌝ }
-{
-    let mut k = from;
-    while k < to {
-        if byte(page, n, k) != 0 {
-            return false;
-        }
-        k += 1;
-    }
-    true
-}
-
-// Whether the blocks from `from` to below `to` are all palette blocks.
 fn all_palettes(page: &[u8], from: u32, to: u32) -> bool
     ensures { λ r. ⌜ r ≡ palettes (now (page .entry)) from to ⌝ }
 {

@@ -6,10 +6,10 @@ use Rattle.cases.proofs.input.numbers_at.Statement.{statement}
 use Rattle.cases.proofs.input.numbers_at.Tie as tie
 
 abbrev Inv-loop : tie.InvT-loop
-Inv-loop s at values₀ next₀ i₀ values next i = (i ≤ 16)
+Inv-loop s at values₀ next₀ i₀ values next i = (i ≤ 24)
 
 abbrev μ-loop : tie.MeasureT-loop
-μ-loop s at values₀ next₀ i₀ values next i = 16 - i
+μ-loop s at values₀ next₀ i₀ values next i = 24 - i
 
 loop-holds : tie.Need-loop-holds Inv-loop μ-loop
 loop-holds c = search needs

@@ -46,6 +46,36 @@ same-length-2 c = search needs
 returns-2 : tie.Need-returns-2
 returns-2 c = search needs
 
+slice-reshare-prefix-block-case : tie.Need-slice-reshare-prefix-block-case
+slice-reshare-prefix-block-case c = search needs
+
+slice-aggregate-block-case : tie.Need-slice-aggregate-block-case
+slice-aggregate-block-case c = sym (length-take-le _ _ (c .before .before .before .before .before .before .before .before .bytes-at .ensures))
+
+block-case-requires : tie.Need-block-case-requires
+block-case-requires c κs = search needs
+
+same-length-3 : tie.Need-same-length-3
+same-length-3 c = search needs
+
+returns-3 : tie.Need-returns-3
+returns-3 c = search needs
+
+slice-reshare-prefix-page-case : tie.Need-slice-reshare-prefix-page-case
+slice-reshare-prefix-page-case c = search needs
+
+slice-aggregate-page-case : tie.Need-slice-aggregate-page-case
+slice-aggregate-page-case c = sym (length-take-le _ _ (c .before .before .before .before .before .before .before .before .bytes-at .ensures))
+
+page-case-requires : tie.Need-page-case-requires
+page-case-requires c κs = search needs
+
+same-length-4 : tie.Need-same-length-4
+same-length-4 c = search needs
+
+returns-4 : tie.Need-returns-4
+returns-4 c = search needs
+
 pub case-spec : {M : Type 1} → statement M
 case-spec =
     tie.close
@@ -63,4 +93,14 @@ case-spec =
     returns
     step-case-requires
     same-length-2
-    returns-2)
+    returns-2
+    slice-reshare-prefix-block-case
+    slice-aggregate-block-case
+    block-case-requires
+    same-length-3
+    returns-3
+    slice-reshare-prefix-page-case
+    slice-aggregate-page-case
+    page-case-requires
+    same-length-4
+    returns-4)

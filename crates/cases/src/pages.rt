@@ -1,0 +1,189 @@
+// Cases of pages, colours, recipes and running them.
+use crate::output::say;
+use crate::output::say_answer;
+use crate::output::say_next;
+use crate::output::say_size;
+use colour::evaluate;
+use fixed::number;
+use fixed::of_signed;
+use page::Verdict;
+use page::validate;
+use recipe::Written;
+use recipe::write;
+use runner::run;
+use space::components;
+use space::kind;
+use space::words;
+
+fn say_refusal(number: u32, block: u32) {
+    say(b"refused ");
+    say_size(number);
+    say(b" block ");
+    say_size(block);
+}
+
+fn validate_case(page: &[u8]) {
+    let v = validate(page);
+    match v {
+        Verdict::Accepted => say(b"accepted"),
+        Verdict::Refused { number, block } => say_refusal(number, block),
+    }
+}
+
+// The first of a list, as many as are asked for and there are.
+fn first(s: &[i32], count: u32) -> &[i32] {
+    let n = count as usize;
+    if n <= s.len() { &s[..n] } else { s }
+}
+
+fn number_or_zero(v: [i32; 24], k: usize) -> i32 {
+    if k < 24 { v[k] } else { 0 }
+}
+
+fn components_from(v: [i32; 24], from: u32) -> [i32; 20] {
+    let mut c = [0i32; 20];
+    let mut i: usize = 0;
+    while i < 20 {
+        let x = number_or_zero(v, (from as usize) + i);
+        c[i] = x;
+        i += 1;
+    }
+    c
+}
+
+fn evaluate_case(v: [i32; 24], page: &[u8]) {
+    let c = components_from(v, 3);
+    say_answer(evaluate(page, of_signed(v[1]), first(&c, of_signed(v[2]))));
+}
+
+// Whether each word from `at` on is 7.
+fn is_kept(s: &[i32], at: usize) -> bool {
+    let mut i = at;
+    while i < s.len() {
+        if s[i] != 7 {
+            return false;
+        }
+        i += 1;
+    }
+    true
+}
+
+fn say_words(s: &[i32], n: usize) {
+    let mut i: usize = 0;
+    while i < s.len() {
+        if n <= i {
+            return;
+        }
+        say_next(s[i]);
+        i += 1;
+    }
+}
+
+// Writes a recipe into words that hold 7.
+fn write_into(page: &[u8], n: u32, s: &mut [i32]) {
+    let reply = write(page, n, s);
+    match reply {
+        Written::Words(count) => {
+            say(b"words ");
+            say_size(count);
+            if is_kept(s, count as usize) {
+                say(b" kept");
+            }
+            say_words(s, count as usize);
+        }
+        Written::Refused { number, block } => {
+            say_refusal(number, block);
+            if is_kept(s, 0) {
+                say(b" kept");
+            }
+        }
+    }
+}
+
+fn lent(s: &mut [i32], n: usize, page: &[u8], space: u32) {
+    if n <= s.len() {
+        write_into(page, space, &mut s[..n]);
+    }
+}
+
+fn write_case(v: [i32; 24], page: &[u8]) {
+    let mut s = [7i32; 1100];
+    lent(&mut s, of_signed(v[2]) as usize, page, of_signed(v[1]));
+}
+
+// The words that bytes are, four to a word.
+fn words_of(s: &[u8], out: &mut [i32]) {
+    let mut i: usize = 0;
+    while i < out.len() {
+        if 1200 <= i {
+            return;
+        }
+        let x = number(s, (i / 128) as u32, (4 * (i % 128)) as u32);
+        out[i] = x;
+        i += 1;
+    }
+}
+
+fn run_case(v: [i32; 24], bytes: &[u8]) {
+    let mut s = [0i32; 1100];
+    words_of(bytes, &mut s);
+    let c = components_from(v, 2);
+    let n = (bytes.len() / 4) % 1101;
+    say_answer(run(first(&s, n as u32), first(&c, of_signed(v[1]))));
+}
+
+fn say_family(k: u32) {
+    match k {
+        1 => say(b"CalGray"),
+        2 => say(b"CalRGB"),
+        3 => say(b"Lab"),
+        4 => say(b"Indexed"),
+        _ => say(b"Separation"),
+    }
+}
+
+fn space_case(page: &[u8], i: u32) {
+    let k = kind(page, i);
+    if (k == 0) | (k == 6) {
+        return;
+    }
+    say(b"; ");
+    say_size(i);
+    say(b" ");
+    say_family(k);
+    say(b" ");
+    say_size(components(page, i));
+    say(b" ");
+    say_size(words(page, i));
+}
+
+fn accepted_case(page: &[u8]) {
+    say(b"blocks ");
+    say_size((page.len() / 512 % 65536) as u32);
+    let mut i: u32 = 0;
+    while i < fixed::BLOCKS {
+        space_case(page, i);
+        i += 1;
+    }
+}
+
+// The listing, its lines joined by semicolons.
+fn list_case(page: &[u8]) {
+    let v = validate(page);
+    match v {
+        Verdict::Accepted => accepted_case(page),
+        Verdict::Refused { number, block } => say_refusal(number, block),
+    }
+}
+
+// Operations 30 to 34: validating, evaluating, writing a recipe, running one, listing.
+pub fn page_case(op: u32, v: [i32; 24], bytes: &[u8]) {
+    match op {
+        30 => validate_case(bytes),
+        31 => evaluate_case(v, bytes),
+        32 => write_case(v, bytes),
+        33 => run_case(v, bytes),
+        34 => list_case(bytes),
+        _ => say(b"no such case"),
+    }
+}
