@@ -3,3 +3,4 @@ pub mod Sums
 pub mod Runs
 pub mod Ranges
 pub mod Shapes
+pub mod Tallies

@@ -1,7 +1,9 @@
 // Refusal 3: bytes that must be zero, names, kinds and own numbers, of a block and of a record.
 ghost use mathlib.Core.Path.{_≡_};
 ghost use mathlib.Core.List.{List};
-ghost use Prim.Native.Nat.{ℕ, _+_, _≤_};
+ghost use Prim.Native.Nat.{ℕ, _+_, _*_, _≤_};
+ghost use lib.Dec.{eqb};
+ghost use lib.ListN.{length};
 ghost use Rattle.fixed.specs.Bytes.{blockAt};
 ghost use Rattle.fixed.specs.Loops.{zeroBetween};
 ghost use Rattle.record.specs.Layout.{namedTo};
@@ -12,8 +14,25 @@ use crate::types::NUMBERS;
 use crate::types::Record;
 use fixed::byte;
 
-// Whether the bytes of block n from `from` to below `to` are zero.
-pub fn zero_between(page: &[u8], n: u32, from: u32, to: u32) -> bool
+// The sum of the bytes from `from` to below `to` of block n, which the page has: 0 just where all of them are zero.
+fn sum_between(page: &[u8], n: u32, from: u32, to: u32) -> u32
+    requires { ⌜ (to ≤ 512) × (512 * n + 512 ≤ length (now page)) ⌝ }
+    ensures { λ r. ⌜ eqb r 0 ≡ zeroBetween (blockAt (now (page .entry)) n) from to ⌝ }
+{
+    let start = 512 * (n as usize);
+    let end = to as usize;
+    let mut sum: u32 = 0;
+    let mut k = from as usize;
+    while k < end {
+        let x = page[start + k] as u32;
+        sum += x;
+        k += 1;
+    }
+    sum
+}
+
+// The same byte by byte, for bytes that the page may not have.
+fn scan_zero(page: &[u8], n: u32, from: u32, to: u32) -> bool
     ensures { λ r. ⌜ r ≡ zeroBetween (blockAt (now (page .entry)) n) from to ⌝ }
 {
     let mut k = from;
@@ -24,6 +43,18 @@ pub fn zero_between(page: &[u8], n: u32, from: u32, to: u32) -> bool
         k += 1;
     }
     true
+}
+
+// Whether the bytes from `from` to below `to` of block n are zero.
+pub fn zero_between(page: &[u8], n: u32, from: u32, to: u32) -> bool
+    ensures { λ r. ⌜ r ≡ zeroBetween (blockAt (now (page .entry)) n) from to ⌝ }
+{
+    if to <= 512 {
+        if 512 * (n as usize) + 512 <= page.len() {
+            return sum_between(page, n, from, to) == 0;
+        }
+    }
+    scan_zero(page, n, from, to)
 }
 
 fn none_zero(page: &[u8], n: u32, from: u32, to: u32) -> bool

@@ -1,4 +1,4 @@
--- `zero_between` scans: the bytes below k pass.
+-- `scan_zero` scans: the bytes below k pass.
 use mathlib.Core.Path.{sym, _∙_}
 use Prim.Native.Nat.{_-_, _*_}
 use lib.ListN.{getD, drop}
@@ -7,8 +7,8 @@ use lib.Dec.{eqb}
 use Rattle.fixed.proofs.Scans.{Passing, passing-start, passing-turn, passing-stop, passing-end}
 use Rattle.fixed.specs.Loops.{zeroBetween}
 use borrow.Author.Needs.{needs}
-use Rattle.record.proofs.shape.zero_between.Statement.{statement}
-use Rattle.record.proofs.shape.zero_between.Tie as tie
+use Rattle.record.proofs.shape.scan_zero.Statement.{statement}
+use Rattle.record.proofs.shape.scan_zero.Tie as tie
 
 abbrev Inv-loop : tie.InvT-loop
 Inv-loop page n from to k₀ k = Passing (λ j. eqb (getD (drop (512 * n) page) j 0) 0) from to k
@@ -39,8 +39,8 @@ returns-2 : tie.Need-returns-2 Inv-loop μ-loop
 unfolding zeroBetween
 returns-2 c = passing-end _ _ _ _ (c .before .loop .inv) (c .loop-test .left)
 
-pub zero-between-spec : {M : Type 1} → statement M
-zero-between-spec =
+pub scan-zero-spec : {M : Type 1} → statement M
+scan-zero-spec =
     tie.close
     (tie.spec
     Inv-loop
