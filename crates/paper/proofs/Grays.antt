@@ -1,0 +1,63 @@
+-- The worked CalGray block as a page: it is accepted, colour 1 gives the white point's floats, and -3 gives zeros.
+use mathlib.Core.Path.{_≡_, refl, sym, ap, ap₂, _∙_}
+use mathlib.Core.List.{List, [], _∷_}
+use Prim.Native.Nat.{ℕ}
+use lib.Dec.{lit<}
+use lib.IntN.{ℤ, pos, negsuc}
+use lib.Ieee.{Float}
+use Rattle.fixed.specs.Numbers.{float, limited, gammaSupported}
+use Rattle.fixed.specs.Bytes.{twoBytes, fourBytes, numberAt}
+use Rattle.fixed.specs.Loops.{total, allFrom, zeroBetween, firstFrom}
+use Rattle.fixed.specs.Values.{listed, limitStep}
+use Rattle.layout.specs.Field.{padded}
+use Rattle.record.specs.Layout.{headOf, plain, weighed, checked, blockOf}
+use Rattle.record.specs.Reading.{bodyBy}
+use Rattle.record.specs.Rules.{known, nameShown, formed, lawful, supported, whitePoint, blackPoint}
+use Rattle.cie.specs.declared.GrayClosing.{GrayClosing}
+use Rattle.cie.specs.Answers.{Reply, answer, inXyz}
+use Rattle.cie.specs.Closings.{calGrayOf, inThree, closed}
+use Rattle.cie.proofs.Facts.{Above, one-float, gray-white, gray-black}
+use Rattle.space.specs.Numbers.{kindAt}
+use Rattle.space.specs.Spaces.{Space, calGray}
+use Rattle.space.specs.Pages.{plainBy, tintedBy, spaceBy, spaceAt}
+use Rattle.page.specs.Outcomes.{Outcome, accepted}
+use Rattle.page.specs.Validation.{wellSized, faultOne, permitted, owedAt, held, faultOwed, faultTwo, validated}
+use Rattle.colour.specs.Colours.{limitedTo, valued, answered}
+use Rattle.colour.specs.Evaluating.{onAccepted, evaluated}
+use Rattle.paper.specs.Paper.{gray0, nought}
+
+-- its closing step
+abbrev k : GrayClosing
+k = record { xw = pos 950500; zw = pos 1089000; gamma = pos 1000000 }
+
+-- by computing
+gray-accepted : validated (blockOf gray0) ≡ accepted
+unfolding blockOf headOf twoBytes fourBytes padded validated wellSized faultOne faultTwo faultOwed owedAt permitted held checked plain weighed bodyBy known nameShown formed lawful supported whitePoint blackPoint gammaSupported numberAt total allFrom zeroBetween firstFrom
+gray-accepted = refl
+
+gray-space : spaceAt (blockOf gray0) 0 ≡ calGray k
+unfolding blockOf headOf twoBytes fourBytes padded plain weighed total kindAt spaceBy tintedBy plainBy numberAt
+gray-space = refl
+
+colour : (a : ℤ) → answered (calGray k) (a ∷ []) ≡ inThree (calGrayOf k (limited (pos 0) (pos 1000000) a))
+unfolding answered valued closed limitedTo limitStep listed
+colour a = refl
+
+replies : (a : ℤ) → evaluated (blockOf gray0) 0 (a ∷ []) ≡ inThree (calGrayOf k (limited (pos 0) (pos 1000000) a))
+unfolding evaluated
+replies a =
+    ap (λ (o : Outcome). onAccepted o (answered (spaceAt (blockOf gray0) 0) (a ∷ []))) gray-accepted ∙
+    (ap (λ (s : Space). answered s (a ∷ [])) gray-space ∙ colour a)
+
+full : limited (pos 0) (pos 1000000) (pos 1000000) ≡ pos 1000000
+unfolding limited
+full = refl
+
+pub gray-1 : evaluated (blockOf gray0) 0 (pos 1000000 ∷ []) ≡ answer inXyz (float (pos 950500) ∷ float (pos 1000000) ∷ float (pos 1089000) ∷ [])
+gray-1 =
+    replies (pos 1000000) ∙
+    (ap (λ (a : ℤ). inThree (calGrayOf k a)) full ∙
+    (ap inThree (gray-white k) ∙ ap (λ (y : Float). answer inXyz (float (pos 950500) ∷ y ∷ float (pos 1089000) ∷ [])) (sym one-float)))
+
+pub gray-minus-3 : evaluated (blockOf gray0) 0 (negsuc 2999999 ∷ []) ≡ answer inXyz (nought ∷ nought ∷ nought ∷ [])
+gray-minus-3 = replies (negsuc 2999999) ∙ ap inThree (gray-black k (record { size = 950500; is = refl; low = lit< tt; high = lit< tt }) (record { size = 1089000; is = refl; low = lit< tt; high = lit< tt }))

@@ -1,0 +1,1 @@
+// The lines that document 01 marks to be proved, as one statement.
