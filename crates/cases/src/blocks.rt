@@ -1,8 +1,4 @@
 // Cases of one block by itself: read, and written.
-use crate::output::say;
-use crate::output::say_dotted;
-use crate::output::say_next;
-use crate::output::say_size;
 use block::Reply;
 use block::read;
 use block::write;
@@ -16,6 +12,10 @@ use record::Ranges;
 use record::Record;
 use record::Separation;
 use record::Triple;
+use text::say;
+use text::say_dotted;
+use text::say_next;
+use text::say_size;
 
 fn say_triple(t: Triple) {
     say_next(t.x);
@@ -134,92 +134,114 @@ fn small(v: i32) -> u8 {
     (of_signed(v) % 256) as u8
 }
 
-// The body of kind v[2] whose numbers stand from v[3] on, in the order of the layout.
-fn body_of(v: [i32; 24]) -> Body {
-    let white = Triple {
+fn white_of(v: [i32; 24]) -> Triple {
+    Triple {
         x: v[3],
         y: v[4],
         z: v[5],
-    };
-    let black = Triple {
+    }
+}
+
+fn black_of(v: [i32; 24]) -> Triple {
+    Triple {
         x: v[6],
         y: v[7],
         z: v[8],
+    }
+}
+
+fn gray_of(v: [i32; 24]) -> Body {
+    let white = white_of(v);
+    let black = black_of(v);
+    Body::CalGray(CalGray {
+        white,
+        black,
+        gamma: v[9],
+    })
+}
+
+fn rgb_of(v: [i32; 24]) -> Body {
+    let white = white_of(v);
+    let black = black_of(v);
+    let gammas = Triple {
+        x: v[9],
+        y: v[10],
+        z: v[11],
     };
+    let a = Triple {
+        x: v[12],
+        y: v[13],
+        z: v[14],
+    };
+    let b = Triple {
+        x: v[15],
+        y: v[16],
+        z: v[17],
+    };
+    let c = Triple {
+        x: v[18],
+        y: v[19],
+        z: v[20],
+    };
+    Body::CalRgb(CalRgb {
+        white,
+        black,
+        gammas,
+        a,
+        b,
+        c,
+    })
+}
+
+fn lab_of(v: [i32; 24]) -> Body {
+    let white = white_of(v);
+    let black = black_of(v);
+    let range = Ranges {
+        amin: v[9],
+        amax: v[10],
+        bmin: v[11],
+        bmax: v[12],
+    };
+    Body::Lab(Lab {
+        white,
+        black,
+        range,
+    })
+}
+
+fn separation_of(v: [i32; 24]) -> Body {
+    let c0 = Four {
+        a: v[6],
+        b: v[7],
+        c: v[8],
+        d: v[9],
+    };
+    let c1 = Four {
+        a: v[10],
+        b: v[11],
+        c: v[12],
+        d: v[13],
+    };
+    Body::Separation(Separation {
+        alternate: short(v[3]),
+        exponent: small(v[4]),
+        name_len: small(v[5]),
+        c0,
+        c1,
+    })
+}
+
+// The body of kind v[2] whose numbers stand from v[3] on, in the order of the layout.
+fn body_of(v: [i32; 24]) -> Body {
     match of_signed(v[2]) {
-        1 => Body::CalGray(CalGray {
-            white,
-            black,
-            gamma: v[9],
-        }),
-        2 => {
-            let gammas = Triple {
-                x: v[9],
-                y: v[10],
-                z: v[11],
-            };
-            let a = Triple {
-                x: v[12],
-                y: v[13],
-                z: v[14],
-            };
-            let b = Triple {
-                x: v[15],
-                y: v[16],
-                z: v[17],
-            };
-            let c = Triple {
-                x: v[18],
-                y: v[19],
-                z: v[20],
-            };
-            Body::CalRgb(CalRgb {
-                white,
-                black,
-                gammas,
-                a,
-                b,
-                c,
-            })
-        }
-        3 => {
-            let range = Ranges {
-                amin: v[9],
-                amax: v[10],
-                bmin: v[11],
-                bmax: v[12],
-            };
-            Body::Lab(Lab {
-                white,
-                black,
-                range,
-            })
-        }
+        1 => gray_of(v),
+        2 => rgb_of(v),
+        3 => lab_of(v),
         4 => Body::Indexed {
             base: short(v[3]),
             hival: short(v[4]),
         },
-        5 => {
-            let c0 = Four {
-                a: v[6],
-                b: v[7],
-                c: v[8],
-                d: v[9],
-            };
-            let c1 = Four {
-                a: v[10],
-                b: v[11],
-                c: v[12],
-                d: v[13],
-            };
-            Body::Separation(Separation {
-                alternate: short(v[3]),
-                exponent: small(v[4]),
-                name_len: small(v[5]),
-                c0,
-                c1,
-            })
-        }
+        5 => separation_of(v),
         6 => Body::Palette,
         _ => Body::Free,
     }

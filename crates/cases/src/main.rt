@@ -5,9 +5,7 @@
 // The numbers are decimal; the bytes are two hexadecimal digits each, or a full stop for a zero byte. The reference implementation writes the input and
 // what is expected of each line.
 mod blocks;
-mod input;
 mod numbers;
-mod output;
 mod pages;
 mod run;
 mod steps;
@@ -16,15 +14,15 @@ mod steps;
 const LINES: usize = 100000;
 
 fn main() {
-    let mut text = io::large_buffer();
+    let mut read = io::large_buffer();
     let mut room = io::large_buffer();
     let mut k: usize = 0;
     while k < LINES {
-        let n = input::line_in(&mut text);
+        let n = text::line_in(&mut read);
         if n == 0 {
             return;
         }
-        run::line(&text[..n], &mut room);
+        run::line(&read[..n], &mut room);
         k += 1;
     }
 }

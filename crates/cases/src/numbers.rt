@@ -1,9 +1,4 @@
 // Cases of the crate `fixed`.
-use crate::output::say;
-use crate::output::say_bytes;
-use crate::output::say_float;
-use crate::output::say_number;
-use crate::output::say_size;
 use fixed::float_of;
 use fixed::limit;
 use fixed::number;
@@ -14,6 +9,11 @@ use fixed::round_index;
 use fixed::tint_power;
 use fixed::tint_value;
 use fixed::two;
+use text::say;
+use text::say_bytes;
+use text::say_float;
+use text::say_number;
+use text::say_size;
 
 fn palette_case(b: u32, lo: i32, hi: i32) {
     if b <= 255 {

@@ -1,8 +1,4 @@
 // Cases of pages, colours, recipes and running them.
-use crate::output::say;
-use crate::output::say_answer;
-use crate::output::say_next;
-use crate::output::say_size;
 use colour::evaluate;
 use fixed::number;
 use fixed::of_signed;
@@ -11,16 +7,13 @@ use page::validate;
 use recipe::Written;
 use recipe::write;
 use runner::run;
-use space::components;
-use space::kind;
-use space::words;
-
-fn say_refusal(number: u32, block: u32) {
-    say(b"refused ");
-    say_size(number);
-    say(b" block ");
-    say_size(block);
-}
+use text::is_listed;
+use text::say;
+use text::say_answer;
+use text::say_next;
+use text::say_refusal;
+use text::say_size;
+use text::say_space;
 
 fn validate_case(page: &[u8]) {
     let v = validate(page);
@@ -132,29 +125,11 @@ fn run_case(v: [i32; 24], bytes: &[u8]) {
     say_answer(run(first(&s, n as u32), first(&c, of_signed(v[1]))));
 }
 
-fn say_family(k: u32) {
-    match k {
-        1 => say(b"CalGray"),
-        2 => say(b"CalRGB"),
-        3 => say(b"Lab"),
-        4 => say(b"Indexed"),
-        _ => say(b"Separation"),
-    }
-}
-
 fn space_case(page: &[u8], i: u32) {
-    let k = kind(page, i);
-    if (k == 0) | (k == 6) {
-        return;
+    if is_listed(page, i) {
+        say(b"; ");
+        say_space(page, i);
     }
-    say(b"; ");
-    say_size(i);
-    say(b" ");
-    say_family(k);
-    say(b" ");
-    say_size(components(page, i));
-    say(b" ");
-    say_size(words(page, i));
 }
 
 fn accepted_case(page: &[u8]) {

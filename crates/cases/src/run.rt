@@ -1,13 +1,13 @@
 // A case, which stands in a line.
 use crate::blocks::block_case;
-use crate::input::bytes_at;
-use crate::input::find;
-use crate::input::numbers_at;
 use crate::numbers::number_case;
-use crate::output::say;
 use crate::pages::page_case;
 use crate::steps::step_case;
 use fixed::of_signed;
+use text::bytes_at;
+use text::find;
+use text::numbers_at;
+use text::say;
 
 // Runs a case whose operation and numbers stand from `at` on; its bytes go into `room`.
 fn case(s: &[u8], at: usize, room: &mut [u8]) {

@@ -1,7 +1,4 @@
 // Cases of the crate `cie`.
-use crate::output::say;
-use crate::output::say_float;
-use crate::output::say_xyz;
 use cie::decode;
 use cie::gray;
 use cie::lab;
@@ -10,6 +7,9 @@ use cie::rgb;
 use cie::white;
 use fixed::float_of;
 use fixed::of_signed;
+use text::say;
+use text::say_float;
+use text::say_xyz;
 
 fn decoded(v: i32, gamma: i32) -> f64 {
     decode(float_of(v), of_signed(gamma))

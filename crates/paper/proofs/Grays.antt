@@ -1,7 +1,6 @@
 -- The worked CalGray block as a page: it is accepted, colour 1 gives the white point's floats, and -3 gives zeros.
-use mathlib.Core.Path.{_≡_, refl, sym, ap, ap₂, _∙_}
-use mathlib.Core.List.{List, [], _∷_}
-use Prim.Native.Nat.{ℕ}
+use mathlib.Core.Path.{_≡_, refl, sym, ap, _∙_}
+use mathlib.Core.List.{[], _∷_}
 use lib.Dec.{lit<}
 use lib.IntN.{ℤ, pos, negsuc}
 use lib.Ieee.{Float}
@@ -14,9 +13,9 @@ use Rattle.record.specs.Layout.{headOf, plain, weighed, checked, blockOf}
 use Rattle.record.specs.Reading.{bodyBy}
 use Rattle.record.specs.Rules.{known, nameShown, formed, lawful, supported, whitePoint, blackPoint}
 use Rattle.cie.specs.declared.GrayClosing.{GrayClosing}
-use Rattle.cie.specs.Answers.{Reply, answer, inXyz}
+use Rattle.cie.specs.Answers.{answer, inXyz}
 use Rattle.cie.specs.Closings.{calGrayOf, inThree, closed}
-use Rattle.cie.proofs.Facts.{Above, one-float, gray-white, gray-black}
+use Rattle.cie.proofs.Facts.{one-float, gray-white, gray-black}
 use Rattle.space.specs.Numbers.{kindAt}
 use Rattle.space.specs.Spaces.{Space, calGray}
 use Rattle.space.specs.Pages.{plainBy, tintedBy, spaceBy, spaceAt}

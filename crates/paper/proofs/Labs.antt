@@ -1,20 +1,15 @@
 -- Lab with 0 within both ranges: (100, 0, 0) gives the white point's floats, and (0, 0, 0) zeros.
 use mathlib.Core.Path.{_≡_, refl, sym, ap, _∙_}
-use mathlib.Core.Bool.{Bool, true, false, true≢false}
-use mathlib.Core.List.{List, [], _∷_}
-use Prim.Native.Nat.{ℕ}
+use mathlib.Core.Bool.{true≢false}
+use mathlib.Core.List.{[], _∷_}
 use lib.IntN.{ℤ, pos, negsuc}
-use lib.Signed.{ltZ}
 use lib.Ieee.{Float}
-use mir.Syntax.{w32}
-use mir.Val.{SFits}
 use borrow.Author.Tests.{ltb-true}
 use Rattle.fixed.specs.Numbers.{float, limited}
 use Rattle.fixed.specs.Values.{listed, limitStep}
 use Rattle.fixed.proofs.Floors.{limited-inside}
 use Rattle.cie.specs.declared.LabClosing.{LabClosing}
-use Rattle.cie.specs.declared.Xyz.{Xyz}
-use Rattle.cie.specs.Answers.{Reply, answer, inXyz}
+use Rattle.cie.specs.Answers.{answer, inXyz}
 use Rattle.cie.specs.Closings.{calLabOf, inThree, closed}
 use Rattle.cie.proofs.Facts.{Above, one-float, lab-white, lab-black}
 use Rattle.space.specs.Spaces.{lab}

@@ -1,7 +1,7 @@
 -- The lines of document 01, "On either side of the line", that are marked P: one theorem.
 use mathlib.Core.Path.{_≡_, refl}
 use Prim.Native.Nat.{ℕ, _≤_, zero-le}
-use lib.IntN.{ℤ, pos, negsuc}
+use lib.IntN.{pos, negsuc}
 use borrow.Author.Tests.{le-ltb}
 use Rattle.fixed.specs.Numbers.{limited, partWay, paletteValue}
 use Rattle.fixed.specs.Bytes.{twoAt, twoBytes, fourBytes}

@@ -53,7 +53,7 @@ pub record Check (r : Record) (p q : ℕ) : Type 0 where
 abbrev pub zeros : List ℕ
 zeros = replicate 512 0
 
--- 0.0, not below
+-- 0.0, of positive sign
 abbrev pub nought : Float
 nought = fin false 0 (pos 0)
 
@@ -83,10 +83,10 @@ pub record Paper : Type 0 where
   pub gray-1 : evaluated (blockOf gray0) 0 (pos 1000000 ∷ []) ≡ answer inXyz (float (pos 950500) ∷ float (pos 1000000) ∷ float (pos 1089000) ∷ [])
   -- "-3 gives zeros"
   pub gray-minus-3 : evaluated (blockOf gray0) 0 (negsuc 2999999 ∷ []) ≡ answer inXyz (nought ∷ nought ∷ nought ∷ [])
-  -- "Lab, 0 within both ranges, here and in the next line. (100,0,0): the white point's floats." Whatever the white point
+  -- "Lab, 0 within both ranges, here and in the next line. (100,0,0): the white point's floats." For every white point
   pub lab-100 : (k : LabClosing) (al ah bl bh : ℤ) → Within al ah → Within bl bh
       → answered (lab k al ah bl bh) (pos 100000000 ∷ pos 0 ∷ pos 0 ∷ []) ≡ answer inXyz (float (k .xw) ∷ float (pos 1000000) ∷ float (k .zw) ∷ [])
-  -- "(0,0,0): zeros"
+  -- "(0,0,0): zeros". For every white point that the clause permits
   pub lab-0 : (k : LabClosing) (al ah bl bh : ℤ) → White (k .xw) → White (k .zw) → Within al ah → Within bl bh
       → answered (lab k al ah bl bh) (pos 0 ∷ pos 0 ∷ pos 0 ∷ []) ≡ answer inXyz (nought ∷ nought ∷ nought ∷ [])
   -- "L* 8 with a = b = 0 is cubed in all three"

@@ -8,10 +8,10 @@ use Rattle.cases.proofs.main.Statement.{statement}
 use Rattle.cases.proofs.main.Tie as tie
 
 abbrev Inv-loop : tie.InvT-loop
-Inv-loop text₀ room₀ k₀ text room k = (length text ≡ 65536) × (length room ≡ 65536)
+Inv-loop read₀ room₀ k₀ read room k = (length read ≡ 65536) × (length room ≡ 65536)
 
 abbrev μ-loop : tie.MeasureT-loop
-μ-loop text₀ room₀ k₀ text room k = 100000 - k
+μ-loop read₀ room₀ k₀ read room k = 100000 - k
 
 large-buffer-requires : tie.Need-large-buffer-requires Inv-loop μ-loop
 large-buffer-requires c κs = search needs
@@ -31,8 +31,8 @@ line-in-requires c κs = search needs
 returns : tie.Need-returns Inv-loop μ-loop
 returns c = search needs
 
-array-share-prefix-text : tie.Need-array-share-prefix-text Inv-loop μ-loop
-array-share-prefix-text c = search needs
+array-share-prefix-read : tie.Need-array-share-prefix-read Inv-loop μ-loop
+array-share-prefix-read c = search needs
 
 slice-aggregate-line : tie.Need-slice-aggregate-line Inv-loop μ-loop
 slice-aggregate-line c = sym (length-take-le _ _ (c .before .before .before .line-in .ensures))
@@ -67,7 +67,7 @@ main-spec =
     slice-aggregate-line-in
     line-in-requires
     returns
-    array-share-prefix-text
+    array-share-prefix-read
     slice-aggregate-line
     slice-aggregate-line-2
     line-requires

@@ -1,13 +1,14 @@
+-- The loop passes over the numbers that a block may have.
 use Prim.Native.Nat.{_-_}
 use borrow.Author.Needs.{needs}
 use Rattle.listing.proofs.lines.accepted.Statement.{statement}
 use Rattle.listing.proofs.lines.accepted.Tie as tie
 
 abbrev Inv-loop : tie.InvT-loop
-Inv-loop page n i₀ i = Unit {0}
+Inv-loop page i₀ i = Unit {0}
 
 abbrev μ-loop : tie.MeasureT-loop
-μ-loop page n i₀ i = 64 - i
+μ-loop page i₀ i = 64 - i
 
 slice-aggregate-say : tie.Need-slice-aggregate-say Inv-loop μ-loop
 slice-aggregate-say c = search needs
@@ -15,8 +16,11 @@ slice-aggregate-say c = search needs
 say-requires : tie.Need-say-requires Inv-loop μ-loop
 say-requires c κs = search needs
 
-print-decimal-requires : tie.Need-print-decimal-requires Inv-loop μ-loop
-print-decimal-requires c κs = search needs
+cast-say-size : tie.Need-cast-say-size Inv-loop μ-loop
+cast-say-size c = search needs
+
+say-size-requires : tie.Need-say-size-requires Inv-loop μ-loop
+say-size-requires c κs = search needs
 
 slice-aggregate-say-2 : tie.Need-slice-aggregate-say-2 Inv-loop μ-loop
 slice-aggregate-say-2 c = search needs
@@ -50,7 +54,8 @@ accepted-spec =
     μ-loop
     slice-aggregate-say
     say-requires
-    print-decimal-requires
+    cast-say-size
+    say-size-requires
     slice-aggregate-say-2
     say-requires-2
     loop-holds

@@ -4,8 +4,8 @@ use mathlib.Core.Path.{_≡_}
 use Prim.Native.Nat.{_≤_, _<_, _-_}
 use lib.ListN.{length}
 use borrow.Author.Needs.{needs}
-use Rattle.cases.proofs.input.line_in.Statement.{statement}
-use Rattle.cases.proofs.input.line_in.Tie as tie
+use Rattle.text.proofs.input.line_in.Statement.{statement}
+use Rattle.text.proofs.input.line_in.Tie as tie
 
 abbrev Inv-loop : tie.InvT-loop
 Inv-loop out₀ n₀ out n = (n ≤ length out) × (length out ≡ length out₀)

@@ -3,8 +3,8 @@ use mathlib.Core.Bool.{true, false, true≢false, not}
 use lib.Dec.{T}
 use lib.Ieee.{Float, nan, inf, fin, isNan, eq}
 use borrow.Author.Needs.{needs}
-use Rattle.cases.proofs.output.bits_of.Statement.{statement}
-use Rattle.cases.proofs.output.bits_of.Tie as tie
+use Rattle.text.proofs.output.bits_of.Statement.{statement}
+use Rattle.text.proofs.output.bits_of.Tie as tie
 
 -- what equals itself is no NaN
 number : (x : Float) → eq x x ≡ true → T (not (isNan x))

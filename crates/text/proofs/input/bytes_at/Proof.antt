@@ -4,8 +4,8 @@ use mathlib.Core.Path.{_≡_}
 use Prim.Native.Nat.{_≤_, _<_, _-_}
 use lib.ListN.{length}
 use borrow.Author.Needs.{needs}
-use Rattle.cases.proofs.input.bytes_at.Statement.{statement}
-use Rattle.cases.proofs.input.bytes_at.Tie as tie
+use Rattle.text.proofs.input.bytes_at.Statement.{statement}
+use Rattle.text.proofs.input.bytes_at.Tie as tie
 
 abbrev Inv-loop : tie.InvT-loop
 Inv-loop s at out₀ i₀ n₀ out i n = (n ≤ length out) × (length out ≡ length out₀)

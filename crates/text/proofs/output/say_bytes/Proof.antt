@@ -3,8 +3,8 @@ use mathlib.Core.Path.{_≡_}
 use Prim.Native.Nat.{_≤_, _<_, _-_}
 use lib.ListN.{length}
 use borrow.Author.Needs.{needs}
-use Rattle.cases.proofs.output.say_bytes.Statement.{statement}
-use Rattle.cases.proofs.output.say_bytes.Tie as tie
+use Rattle.text.proofs.output.say_bytes.Statement.{statement}
+use Rattle.text.proofs.output.say_bytes.Tie as tie
 
 abbrev Inv-loop : tie.InvT-loop
 Inv-loop s i₀ i = (i ≤ length s)

@@ -2,8 +2,8 @@ use mathlib.Core.Path.{_≡_}
 use Prim.Native.Nat.{_≤_, _<_, _-_}
 use lib.ListN.{length}
 use borrow.Author.Needs.{needs}
-use Rattle.cases.proofs.output.say_dotted.Statement.{statement}
-use Rattle.cases.proofs.output.say_dotted.Tie as tie
+use Rattle.text.proofs.output.say_dotted.Statement.{statement}
+use Rattle.text.proofs.output.say_dotted.Tie as tie
 
 abbrev Inv-loop : tie.InvT-loop
 Inv-loop s i₀ i = Unit {0}
