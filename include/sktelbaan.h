@@ -45,6 +45,24 @@ uint64_t sktelbaan_write_recipe(const uint8_t *page, size_t page_len, uint32_t n
 /* Runs a recipe, just its words, on a colour's components. Refusals 11 and 9; gives what sktelbaan_evaluate gives. */
 uint64_t sktelbaan_run(const int32_t *words, size_t words_len, const int32_t *components, size_t count, double floats[4]);
 
+/* A record as numbers: [0] its own number, [1] its kind, then its body's numbers in the order of document 01's table; the others 0.
+ *   0 free
+ *   1 CalGray: white 3, black 3, gamma
+ *   2 CalRGB: white 3, black 3, gammas 3, matrix 9
+ *   3 Lab: white 3, black 3, range 4
+ *   4 Indexed: base, hival
+ *   5 Separation: alternate, exponent, name length, C0 4, C1 4
+ *   6 palette
+ * Its bytes: a Separation's name in the first 128, a palette's 504; the others 0. */
+enum { SKTELBAAN_NUMBERS = 20, SKTELBAAN_BYTES = 504, SKTELBAAN_BLOCK = 512 };
+
+/* Writes a record as a block of 512 bytes. Refusals 10, 3, 4, 5, 6, the first that applies; gives 0. A kind that is not 0 to 6, or a number that has no room in
+ * its field of one or two bytes, is refused with 3. Numbers that the kind does not name are not looked at. */
+uint64_t sktelbaan_write_block(const int32_t numbers[20], const uint8_t bytes[504], uint8_t *block, size_t block_len);
+
+/* Reads the record of a block of 512 bytes. Refusals 10, 2, 3, 4, 5, 6, the first that applies; gives 0. All 20 numbers and all 504 bytes are written. */
+uint64_t sktelbaan_read_block(const uint8_t *block, size_t block_len, int32_t numbers[20], uint8_t bytes[504]);
+
 #ifdef __cplusplus
 }
 #endif

@@ -2,7 +2,8 @@
 //! (ISO 32000-1, clause 8.6).
 //!
 //! A page is 1 to 64 blocks of 512 bytes. Its spaces are asked for by their block's number, and the
-//! device spaces by [`DEVICE_GRAY`], [`DEVICE_RGB`] and [`DEVICE_CMYK`]. Components are signed counts
+//! device spaces by [`DEVICE_GRAY`], [`DEVICE_RGB`] and [`DEVICE_CMYK`]. A block by itself is written
+//! by [`write_block`] and read by [`read_block`]. Components are signed counts
 //! of millionths: 1.0 is 1000000. Any input gets a reply: a page or a recipe may be broken in any way.
 //!
 //! ```
@@ -25,6 +26,9 @@
 use std::fmt;
 
 mod raw;
+mod record;
+
+pub use record::{read_block, write_block, Body, Record};
 
 /// The number that asks for DeviceGray.
 pub const DEVICE_GRAY: u32 = 0xff01;

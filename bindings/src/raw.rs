@@ -28,4 +28,18 @@ extern "C" {
         count: usize,
         floats: *mut f64,
     ) -> u64;
+
+    pub fn sktelbaan_write_block(
+        numbers: *const i32,
+        bytes: *const u8,
+        block: *mut u8,
+        block_len: usize,
+    ) -> u64;
+
+    pub fn sktelbaan_read_block(
+        block: *const u8,
+        block_len: usize,
+        numbers: *mut i32,
+        bytes: *mut u8,
+    ) -> u64;
 }

@@ -1,7 +1,7 @@
 //! The comparisons. Each puts chance input to the library and to the second implementation, and
 //! stops at the first difference.
 
-use crate::{inputs, Difference, Library, Reply, Tally, REFERENCE};
+use crate::{inputs, ours, Difference, Library, Reply, Tally, REFERENCE};
 use reference::cases::hex_of;
 use reference::generate::Rng;
 use sktelbaan::LONGEST;
@@ -190,6 +190,44 @@ pub fn run(library: &Library, rng: &mut Rng, lists: u64) -> Result<Tally, Differ
             for length in 0..words.len().min(40) {
                 one(&words[..length])?;
             }
+        }
+    }
+    Ok(tally)
+}
+
+/// Writes this many records, each as a block of its own; one that is accepted is read back.
+pub fn write_block(library: &Library, rng: &mut Rng, records: u64) -> Result<Tally, Difference> {
+    let mut tally = Tally::default();
+    for _ in 0..records {
+        let record = ours(&inputs::record(rng));
+        let expected = (REFERENCE.write_block)(&record);
+        let reply = (library.write_block)(&record);
+        same("write_block", &reply, &expected, || format!("{record:?}"))?;
+        tally.count(&reply);
+        if let Ok(block) = reply {
+            let again = (library.read_block)(&block);
+            same("read_block, again", &again, &Ok(record), || hex_of(&block))?;
+        }
+    }
+    Ok(tally)
+}
+
+/// Reads this many blocks; what is read is written back.
+pub fn read_block(library: &Library, rng: &mut Rng, blocks: u64) -> Result<Tally, Difference> {
+    let mut tally = Tally::default();
+    for _ in 0..blocks {
+        let made = inputs::block(rng);
+        let (bytes, start) = inputs::placed(rng, &made);
+        let block = &bytes[start..];
+        let expected = (REFERENCE.read_block)(block);
+        let reply = (library.read_block)(block);
+        same("read_block", &reply, &expected, || hex_of(block))?;
+        tally.count(&reply);
+        if let Ok(record) = reply {
+            let again = (library.write_block)(&record).map(|written| written.to_vec());
+            same("write_block, again", &again, &Ok(made), || {
+                format!("{record:?}")
+            })?;
         }
     }
     Ok(tally)

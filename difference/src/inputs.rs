@@ -1,9 +1,9 @@
-//! Chance input: pages, numbers to be asked for, colours and lists of words.
+//! Chance input: pages, numbers to be asked for, colours, lists of words, records and blocks.
 
-use reference::block::{BLOCK, DEVICE_CMYK, DEVICE_GRAY, DEVICE_RGB};
+use reference::block::{lay, seal, Body, Record, BLOCK, DEVICE_CMYK, DEVICE_GRAY, DEVICE_RGB};
 use reference::generate::{
-    damage, damage_recipe, long_recipe, random_component, random_page, random_page_of,
-    random_recipe, repair, Rng,
+    damage, damage_recipe, long_recipe, random_component, random_lone_record, random_page,
+    random_page_of, random_recipe, repair, Rng,
 };
 use reference::numbers::write_two;
 use reference::page::{components, spaces};
@@ -161,4 +161,122 @@ fn chance_words(rng: &mut Rng) -> Vec<i32> {
         _ => rng.between(0, 9),
     };
     (0..length).map(|_| word(rng)).collect()
+}
+
+/// A number in place of another: near it, or any.
+fn moved(rng: &mut Rng, number: &mut i32) {
+    *number = match rng.below(3) {
+        0 => number.wrapping_add(rng.between(-2, 2)),
+        _ => rng.number(),
+    };
+}
+
+/// A reference in place of another: a device code, near one, a block's number, one past the last, any.
+fn moved_reference(rng: &mut Rng, reference: &mut u16) {
+    *reference = match rng.below(4) {
+        0 => 0xff00 + rng.below(7) as u16,
+        1 => 60 + rng.below(8) as u16,
+        2 => rng.below(64) as u16,
+        _ => rng.next() as u16,
+    };
+}
+
+/// Alters one number of a record.
+fn alter_body(rng: &mut Rng, body: &mut Body) {
+    let pick = rng.below(32);
+    match body {
+        Body::Free | Body::Palette => {}
+        Body::CalGray {
+            white,
+            black,
+            gamma,
+        } => match pick % 7 {
+            6 => moved(rng, gamma),
+            k if k < 3 => moved(rng, &mut white[k]),
+            k => moved(rng, &mut black[k - 3]),
+        },
+        Body::CalRgb {
+            white,
+            black,
+            gammas,
+            matrix,
+        } => match pick % 18 {
+            k if k < 3 => moved(rng, &mut white[k]),
+            k if k < 6 => moved(rng, &mut black[k - 3]),
+            k if k < 9 => moved(rng, &mut gammas[k - 6]),
+            k => moved(rng, &mut matrix[k - 9]),
+        },
+        Body::Lab {
+            white,
+            black,
+            range,
+        } => match pick % 10 {
+            k if k < 3 => moved(rng, &mut white[k]),
+            k if k < 6 => moved(rng, &mut black[k - 3]),
+            k => moved(rng, &mut range[k - 6]),
+        },
+        Body::Indexed { base, hival } => match pick % 2 {
+            0 => moved_reference(rng, base),
+            _ => *hival = rng.pick(&[0, 1, 254, 255, 256, 257, 511, 512, 65535], 255),
+        },
+        Body::Separation {
+            alternate,
+            exponent,
+            name_length,
+            c0,
+            c1,
+        } => match pick % 11 {
+            0 => moved_reference(rng, alternate),
+            1 => *exponent = rng.pick(&[0, 1, 4, 5, 255], 5),
+            2 => *name_length = rng.pick(&[0, 1, 126, 127, 128, 255], 0),
+            k if k < 7 => moved(rng, &mut c0[k - 3]),
+            k => moved(rng, &mut c1[k - 7]),
+        },
+    }
+}
+
+/// A record: one that is accepted by itself, or one altered in one to three places.
+pub fn record(rng: &mut Rng) -> Record {
+    let number = rng.below(64) as u16;
+    let mut record = random_lone_record(rng, number);
+    if rng.once_in(3) {
+        return record;
+    }
+    for _ in 0..1 + rng.below(3) {
+        match rng.below(8) {
+            0 => record.number = rng.pick(&[0, 62, 63, 64, 65, 256, 65535], 64),
+            1 => {
+                let reach = rng.pick(&[4, 128, 130, 504], 504);
+                record.bytes[rng.below(reach)] = rng.next() as u8;
+            }
+            _ => alter_body(rng, &mut record.body),
+        }
+    }
+    record
+}
+
+/// A block: a record's, accepted or not, one with bytes altered under a right or a wrong check, or
+/// bytes by chance and not always 512.
+pub fn block(rng: &mut Rng) -> Vec<u8> {
+    let mut block = lay(&record(rng));
+    match rng.below(8) {
+        0..=2 => {}
+        3 => block[rng.below(BLOCK)] ^= 1 << rng.below(8),
+        4 | 5 => {
+            for _ in 0..1 + rng.below(3) {
+                let reach = rng.pick(&[4, 8, 44, 168, 508], 508);
+                block[rng.below(reach)] = rng.next() as u8;
+            }
+            seal(&mut block);
+        }
+        6 => {
+            block[0] = rng.below(9) as u8;
+            seal(&mut block);
+        }
+        _ => {
+            let length = rng.pick(&[0, 1, 511, 513, 1024, 512], 511);
+            return (0..length).map(|_| rng.next() as u8).collect();
+        }
+    }
+    block.to_vec()
 }

@@ -7,14 +7,15 @@
 pub mod compare;
 pub mod inputs;
 
+use reference::block as other;
 use reference::cie::Answer as Expected;
-use sktelbaan::{Answer, Refusal};
+use sktelbaan::{Answer, Body, Record, Refusal};
 use std::fmt;
 
 /// What an operation replies.
 pub type Reply<T> = Result<T, Refusal>;
 
-/// The four operations that are compared.
+/// The six operations that are compared.
 #[derive(Clone, Copy)]
 pub struct Library {
     /// Validates a page.
@@ -25,6 +26,10 @@ pub struct Library {
     pub write_recipe: fn(&[u8], u32, &mut [i32]) -> Reply<usize>,
     /// Runs a recipe on a colour.
     pub run: fn(&[i32], &[i32]) -> Reply<Answer>,
+    /// Writes a record as a block.
+    pub write_block: fn(&Record) -> Reply<[u8; 512]>,
+    /// Reads the record of a block.
+    pub read_block: fn(&[u8]) -> Reply<Record>,
 }
 
 /// The proved library, through its Rust interface.
@@ -33,6 +38,8 @@ pub const PROVED: Library = Library {
     evaluate: sktelbaan::evaluate,
     write_recipe: sktelbaan::write_recipe,
     run: sktelbaan::run,
+    write_block: sktelbaan::write_block,
+    read_block: sktelbaan::read_block,
 };
 
 /// The second implementation, in the same form.
@@ -49,7 +56,135 @@ pub const REFERENCE: Library = Library {
         reference::recipe::write(page, number, words).map_err(refusal_of)
     },
     run: |words, components| answer_of(reference::runner::run(words, components)),
+    write_block: |record| {
+        let mut block = [0; 512];
+        other::write_block(&theirs(record), &mut block)
+            .map(|()| block)
+            .map_err(lone)
+    },
+    read_block: |block| {
+        other::read_block(block)
+            .map(|record| ours(&record))
+            .map_err(lone)
+    },
 };
+
+/// A refusal of a block by itself, which names no block.
+fn lone(number: u32) -> Refusal {
+    Refusal { number, block: 0 }
+}
+
+/// A record in the form of the second implementation.
+pub fn theirs(record: &Record) -> other::Record {
+    let body = match record.body {
+        Body::Free => other::Body::Free,
+        Body::CalGray {
+            white,
+            black,
+            gamma,
+        } => other::Body::CalGray {
+            white,
+            black,
+            gamma,
+        },
+        Body::CalRgb {
+            white,
+            black,
+            gammas,
+            matrix,
+        } => other::Body::CalRgb {
+            white,
+            black,
+            gammas,
+            matrix,
+        },
+        Body::Lab {
+            white,
+            black,
+            range,
+        } => other::Body::Lab {
+            white,
+            black,
+            range,
+        },
+        Body::Indexed { base, hival } => other::Body::Indexed { base, hival },
+        Body::Separation {
+            alternate,
+            exponent,
+            name_length,
+            c0,
+            c1,
+        } => other::Body::Separation {
+            alternate,
+            exponent,
+            name_length,
+            c0,
+            c1,
+        },
+        Body::Palette => other::Body::Palette,
+    };
+    other::Record {
+        number: record.number,
+        body,
+        bytes: record.bytes,
+    }
+}
+
+/// A record of the second implementation in the library's form.
+pub fn ours(record: &other::Record) -> Record {
+    let body = match record.body {
+        other::Body::Free => Body::Free,
+        other::Body::CalGray {
+            white,
+            black,
+            gamma,
+        } => Body::CalGray {
+            white,
+            black,
+            gamma,
+        },
+        other::Body::CalRgb {
+            white,
+            black,
+            gammas,
+            matrix,
+        } => Body::CalRgb {
+            white,
+            black,
+            gammas,
+            matrix,
+        },
+        other::Body::Lab {
+            white,
+            black,
+            range,
+        } => Body::Lab {
+            white,
+            black,
+            range,
+        },
+        other::Body::Indexed { base, hival } => Body::Indexed { base, hival },
+        other::Body::Separation {
+            alternate,
+            exponent,
+            name_length,
+            c0,
+            c1,
+        } => Body::Separation {
+            alternate,
+            exponent,
+            name_length,
+            c0,
+            c1,
+        },
+        other::Body::Palette => Body::Palette,
+    };
+    Record {
+        number: record.number,
+        body,
+        bytes: record.bytes,
+    }
+}
 
 /// A refusal of the second implementation in the library's form.
 fn refusal_of((number, block): (u32, u32)) -> Refusal {

@@ -27,7 +27,8 @@ fn asked(words: impl Iterator<Item = String>) -> Option<(u64, u64)> {
     Some((seed, pages))
 }
 
-/// All the comparisons: for each page validated two colours, two runs of a written recipe, two lists.
+/// All the comparisons: for each page validated two colours, two runs of a written recipe, two lists,
+/// two records and two blocks.
 fn compare(seed: u64, pages: u64) -> Result<(), Difference> {
     let rng = &mut Rng::new(seed);
     let library = &PROVED;
@@ -38,6 +39,14 @@ fn compare(seed: u64, pages: u64) -> Result<(), Difference> {
     println!("the longest recipe {} words", recipes.longest);
     println!("recipe, run, evaluate {}", recipes.run);
     println!("run {}", compare::run(library, rng, 2 * pages)?);
+    println!(
+        "write_block {}",
+        compare::write_block(library, rng, 2 * pages)?
+    );
+    println!(
+        "read_block {}",
+        compare::read_block(library, rng, 2 * pages)?
+    );
     Ok(())
 }
 

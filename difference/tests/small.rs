@@ -46,6 +46,20 @@ fn word_lists_are_run_alike() {
     assert!(tally.refused[9] > 0 && tally.refused[11] > PAGES / 10);
 }
 
+#[test]
+fn records_and_blocks_are_written_and_read_alike() {
+    let tally = compare::write_block(&PROVED, &mut Rng::new(6), 4 * PAGES).unwrap();
+    assert!(tally.total() == 4 * PAGES && tally.accepted > PAGES);
+    for number in 3..=6 {
+        assert!(tally.refused[number] > 0, "refusal {number} was never met");
+    }
+    let tally = compare::read_block(&PROVED, &mut Rng::new(7), 4 * PAGES).unwrap();
+    assert!(tally.total() == 4 * PAGES && tally.accepted > PAGES / 2);
+    for number in (2..=6).chain([10]) {
+        assert!(tally.refused[number] > 0, "refusal {number} was never met");
+    }
+}
+
 /// A refusal that is about no block.
 fn refusal(number: u32) -> Refusal {
     Refusal { number, block: 0 }
@@ -74,6 +88,7 @@ fn idle_libraries_are_caught() {
         evaluate: |_, _, _| Err(refusal(1)),
         write_recipe: |_, _, _| Err(refusal(1)),
         run: |_, _| Err(refusal(11)),
+        ..REFERENCE
     };
     assert_eq!(caught(&refusing), [true; 4]);
     let constant = Library {
@@ -85,6 +100,7 @@ fn idle_libraries_are_caught() {
             Ok(2)
         },
         run: |_, _| Ok(Answer::Gray(0.0)),
+        ..REFERENCE
     };
     assert_eq!(caught(&constant), [true; 4]);
 }
@@ -144,4 +160,33 @@ fn faults_in_one_place_are_caught() {
         ..REFERENCE
     };
     assert!(caught(&unsigned)[3]);
+}
+
+#[test]
+fn faults_on_one_block_are_caught() {
+    let caught = |library: &Library| {
+        let rng = &mut Rng::new(8);
+        [
+            compare::write_block(library, rng, 1_000).is_err(),
+            compare::read_block(library, rng, 1_000).is_err(),
+        ]
+    };
+    assert_eq!(caught(&REFERENCE), [false; 2]);
+    // Writes nothing.
+    let silent = Library {
+        write_block: |record| (REFERENCE.write_block)(record).map(|_| [0; 512]),
+        ..REFERENCE
+    };
+    assert!(caught(&silent)[0]);
+    // Loses the bytes.
+    let bare = Library {
+        read_block: |block| {
+            (REFERENCE.read_block)(block).map(|record| sktelbaan::Record {
+                bytes: [0; 504],
+                ..record
+            })
+        },
+        ..REFERENCE
+    };
+    assert!(caught(&bare)[1]);
 }

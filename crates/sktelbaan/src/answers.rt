@@ -6,12 +6,14 @@ ghost use Rattle.cie.specs.Answers.{meaning};
 ghost use Rattle.page.specs.Outcomes.{meaning as judged};
 ghost use Rattle.recipe.specs.Writes.{meaning as wrote};
 ghost use Rattle.sktelbaan.specs.Replies.{replyOf, floatsOf, inHalves, verdictOf, countOf};
+ghost use Rattle.sktelbaan.specs.Records.{doneOf};
+use block::Reply;
 use cie::Answer;
 use page::Verdict;
 use recipe::Written;
 
 // A reply of two halves.
-fn halves(low: u32, high: u32) -> u64
+pub fn halves(low: u32, high: u32) -> u64
     ensures { λ r. ⌜ r ≡ inHalves low high ⌝ }
 {
     (high as u64) * 4294967296 + (low as u64)
@@ -77,5 +79,15 @@ pub fn count(w: Written) -> u64
     match w {
         Written::Words(n) => halves(0, n),
         Written::Refused { number, block } => halves(number, block),
+    }
+}
+
+// What writing a block comes to, as a reply.
+pub fn done(t: Reply) -> u64
+    ensures { λ r. ⌜ r ≡ doneOf t ⌝ }
+{
+    match t {
+        Reply::Done => halves(0, 0),
+        Reply::Refused(n) => halves(n, 0),
     }
 }

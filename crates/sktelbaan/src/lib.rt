@@ -6,9 +6,14 @@ ghost use Rattle.colour.specs.Evaluating.{evaluated};
 ghost use Rattle.page.specs.Validation.{validated};
 ghost use Rattle.recipe.specs.Writing.{writeReply, writeLeft};
 ghost use Rattle.runner.specs.Runs.{ran};
-ghost use Rattle.sktelbaan.specs.Replies.{replyOf, floatsOf, verdictOf, countOf};
+ghost use Rattle.block.specs.Whole.{readNumber};
+ghost use Rattle.sktelbaan.specs.Replies.{inHalves, replyOf, floatsOf, verdictOf, countOf};
+ghost use Rattle.sktelbaan.specs.Records.{putNumber, putBlock, gotNumbers, gotBytes};
 
 mod answers;
+mod records;
+
+use block::Reply;
 
 // Validates a page. The reply gives nothing.
 #[no_mangle]
@@ -50,4 +55,50 @@ pub extern "C" fn sktelbaan_run(words: &[i32], components: &[i32], floats: &mut 
     ensures { λ _. ⌜ now (floats .exit) ≡ floatsOf (ran (now (words .entry)) (now (components .entry))) (now (floats .entry)) ⌝ }
 {
     answers::put_answer(runner::run(words, components), floats)
+}
+
+// Writes a record as a block of 512 bytes. The reply gives nothing; on a refusal the block stays as it was.
+#[no_mangle]
+pub extern "C" fn sktelbaan_write_block(
+    numbers: &[i32; 20],
+    bytes: &[u8; 504],
+    block: &mut [u8],
+) -> u64
+    ensures { λ r. ⌜ r ≡ inHalves (putNumber (now (numbers .entry)) (now (bytes .entry)) (now (block .entry))) 0 ⌝ }
+    ensures { λ _. ⌜ now (block .exit) ≡ putBlock (now (numbers .entry)) (now (bytes .entry)) (now (block .entry)) ⌝ }
+{
+    if block.len() != 512 {
+        return answers::halves(10, 0);
+    }
+    if !records::is_fitting(numbers) {
+        return answers::halves(3, 0);
+    }
+    answers::done(block::write(records::record_of(numbers, bytes), block))
+}
+
+// Reads the record of a block of 512 bytes. The reply gives nothing; on a refusal the numbers and the bytes stay as they were.
+#[no_mangle]
+pub extern "C" fn sktelbaan_read_block(
+    block: &[u8],
+    numbers: &mut [i32; 20],
+    bytes: &mut [u8; 504],
+) -> u64
+    ensures { λ r. ⌜ r ≡ inHalves (readNumber (now (block .entry))) 0 ⌝ }
+    ensures { λ _. ⌜ now (numbers .exit) ≡ gotNumbers (now (block .entry)) (now (numbers .entry)) ⌝ }
+    ensures { λ _. ⌜ now (bytes .exit) ≡ gotBytes (now (block .entry)) (now (bytes .entry)) ⌝ }
+{
+    let a = block::read(block);
+    let reply = a.reply;
+    match reply {
+        Reply::Done => {
+            let r = a.found;
+            let y = r.body;
+            let v = records::numbers_of(r.own, y);
+            let s = r.bytes;
+            *numbers = v;
+            *bytes = s;
+            answers::halves(0, 0)
+        }
+        Reply::Refused(n) => answers::halves(n, 0),
+    }
 }

@@ -1,0 +1,347 @@
+//! One record, and the block of 512 bytes that it is written as.
+
+use crate::{given, raw, Refusal};
+
+/// How many numbers a record is passed as.
+const NUMBERS: usize = 20;
+
+/// What a block records, by its kind. Numbers are in millionths.
+#[derive(Clone, Copy, Debug, PartialEq, Eq, Hash)]
+pub enum Body {
+    /// Kind 0: a free block, which records nothing.
+    Free,
+    /// Kind 1: a CalGray space.
+    CalGray {
+        /// The white point X, Y, Z.
+        white: [i32; 3],
+        /// The black point X, Y, Z.
+        black: [i32; 3],
+        /// The gamma.
+        gamma: i32,
+    },
+    /// Kind 2: a CalRGB space.
+    CalRgb {
+        /// The white point X, Y, Z.
+        white: [i32; 3],
+        /// The black point X, Y, Z.
+        black: [i32; 3],
+        /// The gammas of A, B and C.
+        gammas: [i32; 3],
+        /// The matrix: XA YA ZA XB YB ZB XC YC ZC.
+        matrix: [i32; 9],
+    },
+    /// Kind 3: a Lab space.
+    Lab {
+        /// The white point X, Y, Z.
+        white: [i32; 3],
+        /// The black point X, Y, Z.
+        black: [i32; 3],
+        /// The ranges: amin amax bmin bmax.
+        range: [i32; 4],
+    },
+    /// Kind 4: an Indexed space; its palette lies in the blocks straight after it.
+    Indexed {
+        /// The reference to the base space.
+        base: u16,
+        /// The greatest index.
+        hival: u16,
+    },
+    /// Kind 5: a Separation space; its name is kept in the record's bytes.
+    Separation {
+        /// The reference to the alternate space.
+        alternate: u16,
+        /// The exponent in whole units.
+        exponent: u8,
+        /// How many bytes the name has.
+        name_length: u8,
+        /// The alternate components of tint 0.
+        c0: [i32; 4],
+        /// The alternate components of tint 1.
+        c1: [i32; 4],
+    },
+    /// Kind 6: a part of a palette, kept in the record's bytes.
+    Palette,
+}
+
+/// One record: the block's own number, what it records, and the bytes of a name or of a palette.
+#[derive(Clone, Copy, Debug, PartialEq, Eq, Hash)]
+pub struct Record {
+    /// The block's own number, 0 to 63 in an accepted record.
+    pub number: u16,
+    /// What the block records.
+    pub body: Body,
+    /// A Separation's name in the first 128 places, a palette's bytes in all 504; every other place
+    /// is zero.
+    pub bytes: [u8; 504],
+}
+
+impl Record {
+    /// The record as numbers: its own number, its kind, its body's numbers, zeros.
+    fn numbers(&self) -> [i32; NUMBERS] {
+        let mut numbers = [0; NUMBERS];
+        let number = i32::from(self.number);
+        let row: Vec<i32> = match &self.body {
+            Body::Free => vec![number, 0],
+            Body::CalGray {
+                white,
+                black,
+                gamma,
+            } => [&[number, 1], &white[..], black, &[*gamma]].concat(),
+            Body::CalRgb {
+                white,
+                black,
+                gammas,
+                matrix,
+            } => [&[number, 2], &white[..], black, gammas, matrix].concat(),
+            Body::Lab {
+                white,
+                black,
+                range,
+            } => [&[number, 3], &white[..], black, range].concat(),
+            Body::Indexed { base, hival } => {
+                vec![number, 4, i32::from(*base), i32::from(*hival)]
+            }
+            Body::Separation {
+                alternate,
+                exponent,
+                name_length,
+                c0,
+                c1,
+            } => {
+                let own = [
+                    number,
+                    5,
+                    i32::from(*alternate),
+                    i32::from(*exponent),
+                    i32::from(*name_length),
+                ];
+                [&own[..], c0, c1].concat()
+            }
+            Body::Palette => vec![number, 6],
+        };
+        for (place, v) in numbers.iter_mut().zip(row) {
+            *place = v;
+        }
+        numbers
+    }
+
+    /// The record of numbers that a block was read as: each fits its field.
+    fn of(numbers: &[i32; NUMBERS], bytes: [u8; 504]) -> Record {
+        let [number, kind, v @ ..] = *numbers;
+        let body = match kind {
+            0 => Body::Free,
+            1 => Body::CalGray {
+                white: [v[0], v[1], v[2]],
+                black: [v[3], v[4], v[5]],
+                gamma: v[6],
+            },
+            2 => Body::CalRgb {
+                white: [v[0], v[1], v[2]],
+                black: [v[3], v[4], v[5]],
+                gammas: [v[6], v[7], v[8]],
+                matrix: std::array::from_fn(|k| v[9 + k]),
+            },
+            3 => Body::Lab {
+                white: [v[0], v[1], v[2]],
+                black: [v[3], v[4], v[5]],
+                range: [v[6], v[7], v[8], v[9]],
+            },
+            4 => Body::Indexed {
+                base: v[0] as u16,
+                hival: v[1] as u16,
+            },
+            5 => Body::Separation {
+                alternate: v[0] as u16,
+                exponent: v[1] as u8,
+                name_length: v[2] as u8,
+                c0: [v[3], v[4], v[5], v[6]],
+                c1: [v[7], v[8], v[9], v[10]],
+            },
+            6 => Body::Palette,
+            other => unreachable!("a record is of one of seven kinds, not of {other}"),
+        };
+        Record {
+            number: number as u16,
+            body,
+            bytes,
+        }
+    }
+}
+
+/// Writes a record as a block, check and all. Refusals 3 to 6.
+///
+/// ```
+/// use sktelbaan::{read_block, write_block, Body, Record};
+/// let body = Body::Indexed { base: 0xff03, hival: 255 };
+/// let record = Record { number: 1, body, bytes: [0; 504] };
+/// let block = write_block(&record)?;
+/// assert_eq!(block[..8], [4, 0, 0, 1, 0xff, 3, 0, 255]);
+/// assert_eq!(read_block(&block)?, record);
+///
+/// let body = Body::Indexed { base: 0xff03, hival: 256 };
+/// assert_eq!(write_block(&Record { body, ..record }).unwrap_err().number, 4);
+/// # Ok::<(), sktelbaan::Refusal>(())
+/// ```
+pub fn write_block(record: &Record) -> Result<[u8; 512], Refusal> {
+    let numbers = record.numbers();
+    let mut block = [0; 512];
+    // SAFETY: the 20 numbers and 504 bytes are good for reading, and the block, which nothing else
+    // refers to, for writing as many bytes as are named.
+    let reply = unsafe {
+        raw::sktelbaan_write_block(
+            numbers.as_ptr(),
+            record.bytes.as_ptr(),
+            block.as_mut_ptr(),
+            block.len(),
+        )
+    };
+    given(reply).map(|_| block)
+}
+
+/// Reads the record of a block by itself. Refusals 10 for bytes that are not 512, and 2 to 6.
+///
+/// ```
+/// use sktelbaan::{read_block, Body};
+/// // A block of zeros is free.
+/// assert_eq!(read_block(&[0; 512])?.body, Body::Free);
+/// assert_eq!(read_block(&[0; 511]).unwrap_err().number, 10);
+/// # Ok::<(), sktelbaan::Refusal>(())
+/// ```
+pub fn read_block(block: &[u8]) -> Result<Record, Refusal> {
+    let mut numbers = [0; NUMBERS];
+    let mut bytes = [0; 504];
+    // SAFETY: the block is good for reading as many bytes as are named, and the 20 numbers and 504
+    // bytes, which nothing else refers to, for writing.
+    let reply = unsafe {
+        raw::sktelbaan_read_block(
+            block.as_ptr(),
+            block.len(),
+            numbers.as_mut_ptr(),
+            bytes.as_mut_ptr(),
+        )
+    };
+    given(reply).map(|_| Record::of(&numbers, bytes))
+}
+
+#[cfg(test)]
+mod tests {
+    use super::*;
+
+    fn write_into(numbers: &[i32; 20], bytes: &[u8; 504], room: usize) -> (u64, Vec<u8>) {
+        let mut block = vec![0xaa; room];
+        // SAFETY: as in `write_block`.
+        let reply = unsafe {
+            raw::sktelbaan_write_block(
+                numbers.as_ptr(),
+                bytes.as_ptr(),
+                block.as_mut_ptr(),
+                block.len(),
+            )
+        };
+        (reply, block)
+    }
+
+    fn read_into(block: &[u8]) -> (u64, [i32; 20], [u8; 504]) {
+        let (mut numbers, mut bytes) = ([-7; 20], [0xaa; 504]);
+        // SAFETY: as in `read_block`.
+        let reply = unsafe {
+            raw::sktelbaan_read_block(
+                block.as_ptr(),
+                block.len(),
+                numbers.as_mut_ptr(),
+                bytes.as_mut_ptr(),
+            )
+        };
+        (reply, numbers, bytes)
+    }
+
+    /// An accepted record of each kind, as numbers and bytes.
+    fn records() -> Vec<([i32; 20], [u8; 504])> {
+        let one = 1_000_000;
+        let zeros = [0; 504];
+        let mut name = zeros;
+        name[..3].copy_from_slice(b"Ink");
+        let rows: [(&[i32], [u8; 504]); 7] = [
+            (&[63, 0], zeros),
+            (&[1, 1, 5, one, 7, 0, 1, 2, 2 * one], zeros),
+            (
+                &[
+                    2, 2, 5, one, 7, 0, 1, 2, one, one, one, -1, 2, -3, 4, -5, 6, -7, 8, -9,
+                ],
+                zeros,
+            ),
+            (
+                &[3, 3, 5, one, 7, 0, 1, 2, -4, 3, i32::MIN, i32::MAX],
+                zeros,
+            ),
+            (&[4, 4, 0xff03, 255], zeros),
+            (&[5, 5, 0xff04, 4, 3, -1, 2, -3, 4, 5, -6, 7, -8], name),
+            (&[6, 6], std::array::from_fn(|k| k as u8)),
+        ];
+        rows.map(|(row, bytes)| {
+            let mut numbers = [0; 20];
+            numbers[..row.len()].copy_from_slice(row);
+            (numbers, bytes)
+        })
+        .to_vec()
+    }
+
+    #[test]
+    fn each_kind_is_written_and_read_back() {
+        for (numbers, bytes) in records() {
+            let (reply, block) = write_into(&numbers, &bytes, 512);
+            assert_eq!(reply, 0, "{numbers:?}");
+            assert_eq!(read_into(&block), (0, numbers, bytes));
+            let record = read_block(&block).unwrap();
+            assert_eq!(record.numbers(), numbers);
+            assert_eq!(write_block(&record).unwrap()[..], block);
+        }
+    }
+
+    #[test]
+    fn a_refusal_alters_nothing() {
+        for (numbers, bytes) in records() {
+            for room in [0, 511, 513] {
+                let (reply, block) = write_into(&numbers, &bytes, room);
+                assert_eq!((reply, block), (10, vec![0xaa; room]));
+            }
+            let (_, mut block) = write_into(&numbers, &bytes, 512);
+            assert_eq!(read_into(&block[..511]), (10, [-7; 20], [0xaa; 504]));
+            block[300] ^= 1;
+            assert_eq!(read_into(&block), (2, [-7; 20], [0xaa; 504]));
+        }
+    }
+
+    #[test]
+    fn numbers_with_no_room_are_refused_with_3() {
+        let refused = |numbers: [i32; 20], bytes| {
+            let (reply, block) = write_into(&numbers, &bytes, 512);
+            assert_eq!((reply, block), (3, vec![0xaa; 512]), "{numbers:?}");
+            assert_eq!(write_into(&numbers, &bytes, 0).0, 10);
+        };
+        for (numbers, bytes) in records() {
+            for own in [-1, 64, 65536, i32::MIN, i32::MAX] {
+                let mut other = numbers;
+                other[0] = own;
+                refused(other, bytes);
+            }
+            for kind in [-1, 7, 256, 257, i32::MIN, i32::MAX] {
+                let mut other = numbers;
+                other[1] = kind;
+                refused(other, bytes);
+            }
+            let limits: &[(usize, i32)] = match numbers[1] {
+                4 => &[(2, 65536), (3, 65536)],
+                5 => &[(2, 65536), (3, 256), (4, 256)],
+                _ => &[],
+            };
+            for (place, limit) in limits {
+                for number in [*limit, limit + 1, -1, i32::MIN, i32::MAX] {
+                    let mut other = numbers;
+                    other[*place] = number;
+                    refused(other, bytes);
+                }
+            }
+        }
+    }
+}

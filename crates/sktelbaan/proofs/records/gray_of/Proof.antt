@@ -1,0 +1,20 @@
+-- Each field is its numbers.
+use Rattle.fixed.proofs.Signs.{heard}
+use borrow.Author.Needs.{needs}
+use Rattle.sktelbaan.proofs.records.gray_of.Statement.{statement}
+use Rattle.sktelbaan.proofs.records.gray_of.Tie as tie
+
+triple-of-requires : tie.Need-triple-of-requires
+triple-of-requires c κs = search needs
+
+triple-of-requires-2 : tie.Need-triple-of-requires-2
+triple-of-requires-2 c κs = search needs
+
+number-requires : tie.Need-number-requires
+number-requires c κs = search needs
+
+returns : tie.Need-returns
+returns c = λ i. record { white = c .before .before .triple-of .ensures i; black = c .before .triple-of2 .ensures i; gamma = heard _ (c .number .ok) (c .number .ensures) i }
+
+pub gray-of-spec : {M : Type 1} → statement M
+gray-of-spec = tie.close (tie.spec triple-of-requires triple-of-requires-2 number-requires returns)

@@ -1,0 +1,426 @@
+// A record as C has it, 20 numbers and 504 bytes, and back.
+ghost use mathlib.Core.Path.{_≡_};
+ghost use Prim.Native.Nat.{_<_, _≤_};
+ghost use Rattle.fixed.specs.Values.{value};
+ghost use Rattle.runner.specs.Steps.{smallOf};
+ghost use Rattle.layout.specs.Field.{padded};
+ghost use Rattle.sktelbaan.specs.Records.{small as smallIn, roomy, fitting, oneOf, twoOf, tripleOf, rangesOf, fourOf, grayOf, rgbOf, labOf, inkOf, bodyOf, recordOf, headed, numbersOf};
+use record::Body;
+use record::CalGray;
+use record::CalRgb;
+use record::Four;
+use record::Lab;
+use record::Ranges;
+use record::Record;
+use record::Separation;
+use record::Triple;
+
+// A number that is not negative, as it is; a negative one is 4294967295, which is beyond every bound.
+fn small(w: i32) -> u32
+    ensures { λ r. ⌜ r ≡ smallOf w ⌝ }
+{
+    if w < 0 {
+        return 4294967295;
+    }
+    w as u32
+}
+
+// Number k.
+fn number(v: &[i32], k: usize) -> i32
+    ensures { λ r. ⌜ r ≡ value (now (v .entry)) k ⌝ }
+{
+    if k < v.len() { v[k] } else { 0 }
+}
+
+// Number k as a small one.
+fn small_at(v: &[i32], k: usize) -> u32
+    ensures { λ r. ⌜ r ≡ smallIn (now (v .entry)) k ⌝ }
+{
+    small(number(v, k))
+}
+
+fn is_roomy(k: u32, v: &[i32]) -> bool
+    ensures { λ r. ⌜ r ≡ roomy k (now (v .entry)) ⌝ }
+{
+    if k == 4 {
+        return (small_at(v, 2) <= 65535) & (small_at(v, 3) <= 65535);
+    }
+    if k == 5 {
+        return (small_at(v, 2) <= 65535) & ((small_at(v, 3) <= 255) & (small_at(v, 4) <= 255));
+    }
+    true
+}
+
+// Whether the numbers make a record.
+pub fn is_fitting(v: &[i32]) -> bool
+    ensures { λ r. ⌜ r ≡ fitting (now (v .entry)) ⌝ }
+{
+    let kind = small_at(v, 1);
+    (kind <= 6) & ((small_at(v, 0) <= 65535) & is_roomy(kind, v))
+}
+
+fn one_of(v: &[i32], k: usize) -> u8
+    ensures { λ r. ⌜ r ≡ oneOf (now (v .entry)) k ⌝ }
+{
+    (small_at(v, k) % 256) as u8
+}
+
+fn two_of(v: &[i32], k: usize) -> u16
+    ensures { λ r. ⌜ r ≡ twoOf (now (v .entry)) k ⌝ }
+{
+    (small_at(v, k) % 65536) as u16
+}
+
+fn triple_of(v: &[i32], i: usize, j: usize, k: usize) -> Triple
+    ensures { λ r. ⌜ r ≡ tripleOf (now (v .entry)) i j k ⌝ }
+{
+    let x = number(v, i);
+    let y = number(v, j);
+    let z = number(v, k);
+    Triple { x, y, z }
+}
+
+fn ranges_of(v: &[i32]) -> Ranges
+    ensures { λ r. ⌜ r ≡ rangesOf (now (v .entry)) ⌝ }
+{
+    let amin = number(v, 8);
+    let amax = number(v, 9);
+    let bmin = number(v, 10);
+    let bmax = number(v, 11);
+    Ranges {
+        amin,
+        amax,
+        bmin,
+        bmax,
+    }
+}
+
+fn four_of(v: &[i32], i: usize, j: usize, k: usize, l: usize) -> Four
+    ensures { λ r. ⌜ r ≡ fourOf (now (v .entry)) i j k l ⌝ }
+{
+    let a = number(v, i);
+    let b = number(v, j);
+    let c = number(v, k);
+    let d = number(v, l);
+    Four { a, b, c, d }
+}
+
+fn gray_of(v: &[i32]) -> CalGray
+    ensures { λ r. ⌜ r ≡ grayOf (now (v .entry)) ⌝ }
+{
+    let white = triple_of(v, 2, 3, 4);
+    let black = triple_of(v, 5, 6, 7);
+    let gamma = number(v, 8);
+    CalGray {
+        white,
+        black,
+        gamma,
+    }
+}
+
+fn rgb_of(v: &[i32]) -> CalRgb
+    ensures { λ r. ⌜ r ≡ rgbOf (now (v .entry)) ⌝ }
+{
+    let white = triple_of(v, 2, 3, 4);
+    let black = triple_of(v, 5, 6, 7);
+    let gammas = triple_of(v, 8, 9, 10);
+    let a = triple_of(v, 11, 12, 13);
+    let b = triple_of(v, 14, 15, 16);
+    let c = triple_of(v, 17, 18, 19);
+    CalRgb {
+        white,
+        black,
+        gammas,
+        a,
+        b,
+        c,
+    }
+}
+
+fn lab_of(v: &[i32]) -> Lab
+    ensures { λ r. ⌜ r ≡ labOf (now (v .entry)) ⌝ }
+{
+    let white = triple_of(v, 2, 3, 4);
+    let black = triple_of(v, 5, 6, 7);
+    let range = ranges_of(v);
+    Lab {
+        white,
+        black,
+        range,
+    }
+}
+
+fn indexed_of(v: &[i32]) -> Body
+    ensures { λ r. ⌜ r ≡ Body.Indexed (twoOf (now (v .entry)) 2) (twoOf (now (v .entry)) 3) ⌝ }
+{
+    let base = two_of(v, 2);
+    let hival = two_of(v, 3);
+    Body::Indexed { base, hival }
+}
+
+fn ink_of(v: &[i32]) -> Separation
+    ensures { λ r. ⌜ r ≡ inkOf (now (v .entry)) ⌝ }
+{
+    let alternate = two_of(v, 2);
+    let exponent = one_of(v, 3);
+    let name_len = one_of(v, 4);
+    let c0 = four_of(v, 5, 6, 7, 8);
+    let c1 = four_of(v, 9, 10, 11, 12);
+    Separation {
+        alternate,
+        exponent,
+        name_len,
+        c0,
+        c1,
+    }
+}
+
+fn body_of(kind: u32, v: &[i32]) -> Body
+    ensures { λ r. ⌜ r ≡ bodyOf kind (now (v .entry)) ⌝ }
+{
+    match kind {
+        1 => Body::CalGray(gray_of(v)),
+        2 => Body::CalRgb(rgb_of(v)),
+        3 => Body::Lab(lab_of(v)),
+        4 => indexed_of(v),
+        5 => Body::Separation(ink_of(v)),
+        6 => Body::Palette,
+        _ => Body::Free,
+    }
+}
+
+fn room_of(s: &[u8; 504]) -> [u8; 504]
+    ensures { λ r. ⌜ r ≡ padded 504 (now (s .entry)) ⌝ }
+{
+    let mut room = [0u8; 504];
+    layout::put_run(&mut room, 0, s, 504);
+    room
+}
+
+// The record of the numbers v and the bytes s.
+pub fn record_of(v: &[i32], s: &[u8; 504]) -> Record
+    ensures { λ r. ⌜ r ≡ recordOf (now (v .entry)) (now (s .entry)) ⌝ }
+{
+    let own = two_of(v, 0);
+    let kind = small_at(v, 1);
+    let body = body_of(kind, v);
+    let bytes = room_of(s);
+    Record { own, body, bytes }
+}
+
+fn gray_numbers(own: u16, g: CalGray) -> [i32; 20]
+    ensures { λ r. ⌜ r ≡ headed own (Body.CalGray g) ⌝ }
+{
+    let w = g.white;
+    let k = g.black;
+    [
+        own as i32,
+        1,
+        w.x,
+        w.y,
+        w.z,
+        k.x,
+        k.y,
+        k.z,
+        g.gamma,
+        0,
+        0,
+        0,
+        0,
+        0,
+        0,
+        0,
+        0,
+        0,
+        0,
+        0,
+    ]
+}
+
+fn rgb_numbers(own: u16, g: CalRgb) -> [i32; 20]
+    ensures { λ r. ⌜ r ≡ headed own (Body.CalRgb g) ⌝ }
+{
+    let w = g.white;
+    let k = g.black;
+    let e = g.gammas;
+    let a = g.a;
+    let b = g.b;
+    let c = g.c;
+    [
+        own as i32,
+        2,
+        w.x,
+        w.y,
+        w.z,
+        k.x,
+        k.y,
+        k.z,
+        e.x,
+        e.y,
+        e.z,
+        a.x,
+        a.y,
+        a.z,
+        b.x,
+        b.y,
+        b.z,
+        c.x,
+        c.y,
+        c.z,
+    ]
+}
+
+fn lab_numbers(own: u16, g: Lab) -> [i32; 20]
+    ensures { λ r. ⌜ r ≡ headed own (Body.Lab g) ⌝ }
+{
+    let w = g.white;
+    let k = g.black;
+    let q = g.range;
+    [
+        own as i32,
+        3,
+        w.x,
+        w.y,
+        w.z,
+        k.x,
+        k.y,
+        k.z,
+        q.amin,
+        q.amax,
+        q.bmin,
+        q.bmax,
+        0,
+        0,
+        0,
+        0,
+        0,
+        0,
+        0,
+        0,
+    ]
+}
+
+fn indexed_numbers(own: u16, base: u16, hival: u16) -> [i32; 20]
+    ensures { λ r. ⌜ r ≡ headed own (Body.Indexed base hival) ⌝ }
+{
+    [
+        own as i32,
+        4,
+        base as i32,
+        hival as i32,
+        0,
+        0,
+        0,
+        0,
+        0,
+        0,
+        0,
+        0,
+        0,
+        0,
+        0,
+        0,
+        0,
+        0,
+        0,
+        0,
+    ]
+}
+
+fn ink_numbers(own: u16, p: Separation) -> [i32; 20]
+    ensures { λ r. ⌜ r ≡ headed own (Body.Separation p) ⌝ }
+{
+    let c = p.c0;
+    let d = p.c1;
+    [
+        own as i32,
+        5,
+        p.alternate as i32,
+        p.exponent as i32,
+        p.name_len as i32,
+        c.a,
+        c.b,
+        c.c,
+        c.d,
+        d.a,
+        d.b,
+        d.c,
+        d.d,
+        0,
+        0,
+        0,
+        0,
+        0,
+        0,
+        0,
+    ]
+}
+
+fn free_numbers(own: u16) -> [i32; 20]
+    ensures { λ r. ⌜ r ≡ headed own (Body.Free) ⌝ }
+{
+    [
+        own as i32,
+        0,
+        0,
+        0,
+        0,
+        0,
+        0,
+        0,
+        0,
+        0,
+        0,
+        0,
+        0,
+        0,
+        0,
+        0,
+        0,
+        0,
+        0,
+        0,
+    ]
+}
+
+fn palette_numbers(own: u16) -> [i32; 20]
+    ensures { λ r. ⌜ r ≡ headed own (Body.Palette) ⌝ }
+{
+    [
+        own as i32,
+        6,
+        0,
+        0,
+        0,
+        0,
+        0,
+        0,
+        0,
+        0,
+        0,
+        0,
+        0,
+        0,
+        0,
+        0,
+        0,
+        0,
+        0,
+        0,
+    ]
+}
+
+// The numbers of a record of that number and body.
+pub fn numbers_of(own: u16, y: Body) -> [i32; 20]
+    ensures { λ r. ⌜ r ≡ headed own y ⌝ }
+{
+    match y {
+        Body::Free => free_numbers(own),
+        Body::CalGray(g) => gray_numbers(own, g),
+        Body::CalRgb(g) => rgb_numbers(own, g),
+        Body::Lab(g) => lab_numbers(own, g),
+        Body::Indexed { base, hival } => indexed_numbers(own, base, hival),
+        Body::Separation(p) => ink_numbers(own, p),
+        Body::Palette => palette_numbers(own),
+    }
+}
