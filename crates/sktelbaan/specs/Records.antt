@@ -49,7 +49,7 @@ oneOf v k = small v k % 256
 abbrev pub twoOf : List ℤ → ℕ → ℕ
 twoOf v k = small v k % 65536
 
--- three numbers and four, from k on
+-- three numbers and four, at these places
 abbrev pub tripleOf : List ℤ → ℕ → ℕ → ℕ → Triple
 tripleOf v i j k = record { x = value v i; y = value v j; z = value v k }
 

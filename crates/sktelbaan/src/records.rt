@@ -1,10 +1,9 @@
 // A record as C has it, 20 numbers and 504 bytes, and back.
 ghost use mathlib.Core.Path.{_≡_};
-ghost use Prim.Native.Nat.{_<_, _≤_};
 ghost use Rattle.fixed.specs.Values.{value};
 ghost use Rattle.runner.specs.Steps.{smallOf};
 ghost use Rattle.layout.specs.Field.{padded};
-ghost use Rattle.sktelbaan.specs.Records.{small as smallIn, roomy, fitting, oneOf, twoOf, tripleOf, rangesOf, fourOf, grayOf, rgbOf, labOf, inkOf, bodyOf, recordOf, headed, numbersOf};
+ghost use Rattle.sktelbaan.specs.Records.{small as smallIn, roomy, fitting, oneOf, twoOf, tripleOf, rangesOf, fourOf, grayOf, rgbOf, labOf, inkOf, bodyOf, recordOf, headed};
 use record::Body;
 use record::CalGray;
 use record::CalRgb;
