@@ -6,6 +6,21 @@
  * (0 for a refusal that is about none), or else what the function gives. On a refusal nothing that is lent changes.
  *
  * Numbers and components are signed 32-bit counts of millionths: 1.0 is 1000000.
+ *
+ * An example: index 2.5 of the Indexed space of block 0, on the page and by its recipe. (samples/colour.c has it whole.)
+ *
+ *     int32_t colour[1] = {2500000}, words[SKTELBAAN_LONGEST];
+ *     double floats[4];
+ *     uint64_t reply = sktelbaan_evaluate(page, page_len, 0, colour, 1, floats);
+ *     if (sktelbaan_refusal(reply) != 0) {
+ *         printf("refused %u block %u\n", sktelbaan_refusal(reply), sktelbaan_value(reply));
+ *     } else if (sktelbaan_value(reply) == SKTELBAAN_XYZ) {
+ *         printf("%.17g %.17g %.17g\n", floats[0], floats[1], floats[2]);
+ *     }
+ *     reply = sktelbaan_write_recipe(page, page_len, 0, words, SKTELBAAN_LONGEST);
+ *     if (sktelbaan_refusal(reply) == 0) {
+ *         reply = sktelbaan_run(words, sktelbaan_value(reply), colour, 1, floats);
+ *     }
  */
 #ifndef SKTELBAAN_H
 #define SKTELBAAN_H
