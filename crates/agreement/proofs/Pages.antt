@@ -14,7 +14,8 @@ use Rattle.cie.specs.Closings.{closed}
 use Rattle.page.specs.Outcomes.{Outcome, accepted, refused}
 use Rattle.page.specs.Validation.{validated}
 use Rattle.page.proofs.Wholes.{whole-at}
-use Rattle.runner.specs.Runs.{ran, longest}
+use Rattle.fixed.specs.Values.{longest}
+use Rattle.runner.specs.Runs.{ran}
 use Rattle.space.specs.Spaces.{Space, none, gray, rgb, cmyk, calGray, calRgb, lab, separation, indexed, countOf}
 use Rattle.space.specs.Pages.{spaceAt}
 use Rattle.space.specs.Wholes.{Whole}

@@ -6,7 +6,7 @@ use native.Mathlib.Nat.{mul-le-mul, le-refl}
 use native.Mathlib.Omega.{arith}
 use lib.IntN.{ℤ, pos}
 use lib.ListN.{length, length-append}
-use Rattle.runner.specs.Runs.{longest}
+use Rattle.fixed.specs.Values.{longest}
 use Rattle.space.specs.Spaces.{Space, none, gray, rgb, cmyk, calGray, calRgb, lab, separation, indexed, countOf}
 use Rattle.space.specs.Wholes.{rankOf, Whole}
 use Rattle.space.proofs.Counts.{count-high}

@@ -16,7 +16,8 @@ use Rattle.space.proofs.Ranks.{rank-indexed, rank-separation, no-indexed, no-se
 use Rattle.space.proofs.Levels.{at-indexed, at-separation, plain-at}
 use Rattle.space.proofs.Counts.{count-high, table-length, c0-length, c1-length}
 use Rattle.recipe.specs.Recipes.{limitsOf, stepsOf, recipeOf}
-use Rattle.recipe.specs.Parts.{rowWords, tintWords, longest, Long}
+use Rattle.recipe.specs.Parts.{rowWords, tintWords, Long}
+use Rattle.fixed.specs.Values.{longest}
 use Rattle.recipe.proofs.Words.{row-size, tint-size}
 use Rattle.recipe.proofs.Steps.{steps-indexed, steps-separation}
 

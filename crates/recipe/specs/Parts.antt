@@ -16,10 +16,6 @@ rowWords page n s = pos 2 ∷ pos (countOf s) ∷ pos (hivalAt page n) ∷ table
 unfoldable pub tintWords : List ℕ → ℕ → Space → List ℤ
 tintWords page n s = pos 3 ∷ pos (exponentAt page n) ∷ pos (countOf s) ∷ (c0Of page n s ++ c1Of page n s)
 
--- the words of the longest recipe: an Indexed of hival 255 over DeviceCMYK
-abbrev pub longest : ℕ
-longest = 1045
-
 -- a space that is over a space at each level, with as many entries in its lists as that one asks for
 unfoldable pub Long : Space → Type 0
 Long none = ⊥

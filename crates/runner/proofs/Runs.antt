@@ -11,7 +11,7 @@ use lib.ListN.{length, drop, length-append, List·getD-append}
 use lib.Seq.{drop-append-seam}
 use borrow.Author.Tests.{lt-ltb, le-ltb, le-leb, eq-eqb}
 use Rattle.fixed.specs.Numbers.{exponentSupported, gammaSupported, tintValue}
-use Rattle.fixed.specs.Values.{value, places, given, limitStep, indexOf, rowStep, tintOf, tintStep}
+use Rattle.fixed.specs.Values.{value, places, longest, given, limitStep, indexOf, rowStep, tintOf, tintStep}
 use Rattle.fixed.proofs.Decide.{both}
 use Rattle.fixed.proofs.Listed.{filled-same, index-within, row-room}
 use Rattle.cie.specs.Answers.{refusal}
@@ -22,7 +22,7 @@ use Rattle.cie.specs.declared.LabClosing.{LabClosing}
 use Rattle.cie.specs.declared.Closing.{Closing}
 use Rattle.cie.specs.declared.Closing.the-variants.{Gray, Rgb, Cmyk, CalGray, CalRgb, Lab}
 use Rattle.runner.specs.Steps.{limitRead, rowRead, tintRead, closeRead, grayRead, rgbRead, stepBy, stepOf}
-use Rattle.runner.specs.Runs.{ended, runs, longest, ran}
+use Rattle.runner.specs.Runs.{ended, runs, ran}
 use Rattle.runner.specs.declared.Step.the-variants.{Limit, Row, Tint, Close}
 use Rattle.runner.specs.declared.Read.the-variants.{At}
 use Rattle.runner.proofs.Stepped.{begun}

@@ -5,7 +5,7 @@ use mathlib.Core.List.{List, [], _∷_}
 use lib.IntN.{ℤ}
 use lib.Dec.{ltb, leb, eqb}
 use lib.ListN.{length, drop}
-use Rattle.fixed.specs.Values.{value, places, given, limitStep, rowStep, tintStep}
+use Rattle.fixed.specs.Values.{value, places, longest, given, limitStep, rowStep, tintStep}
 use Rattle.cie.specs.Answers.{Reply, refusal}
 use Rattle.cie.specs.Closings.{closed}
 use Rattle.cie.specs.declared.Closing.{Closing}
@@ -51,10 +51,6 @@ goes n c (w ∷ ws) zero v =
 -- the steps that stand in l, from values v on
 abbrev pub runs : ℕ → ℕ → List ℤ → List ℤ → Reply
 runs n c l v = goes n c l 0 v
-
--- the words of the longest recipe
-abbrev pub longest : ℕ
-longest = 1045
 
 -- the input count, then the steps
 abbrev pub counted : ℕ → List ℤ → List ℤ → Reply

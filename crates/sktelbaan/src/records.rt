@@ -1,7 +1,5 @@
 // A record as C has it, 20 numbers and 504 bytes, and back.
 ghost use mathlib.Core.Path.{_≡_};
-ghost use Rattle.fixed.specs.Values.{value};
-ghost use Rattle.runner.specs.Steps.{smallOf};
 ghost use Rattle.layout.specs.Field.{padded};
 ghost use Rattle.sktelbaan.specs.Records.{small as smallIn, roomy, fitting, oneOf, twoOf, tripleOf, rangesOf, fourOf, grayOf, rgbOf, labOf, inkOf, bodyOf, recordOf, headed};
 use record::Body;
@@ -13,30 +11,8 @@ use record::Ranges;
 use record::Record;
 use record::Separation;
 use record::Triple;
-
-// A number that is not negative, as it is; a negative one is 4294967295, which is beyond every bound.
-fn small(w: i32) -> u32
-    ensures { λ r. ⌜ r ≡ smallOf w ⌝ }
-{
-    if w < 0 {
-        return 4294967295;
-    }
-    w as u32
-}
-
-// Number k.
-fn number(v: &[i32], k: usize) -> i32
-    ensures { λ r. ⌜ r ≡ value (now (v .entry)) k ⌝ }
-{
-    if k < v.len() { v[k] } else { 0 }
-}
-
-// Number k as a small one.
-fn small_at(v: &[i32], k: usize) -> u32
-    ensures { λ r. ⌜ r ≡ smallIn (now (v .entry)) k ⌝ }
-{
-    small(number(v, k))
-}
+use runner::small_at;
+use runner::word_at;
 
 fn is_roomy(k: u32, v: &[i32]) -> bool
     ensures { λ r. ⌜ r ≡ roomy k (now (v .entry)) ⌝ }
@@ -73,19 +49,19 @@ fn two_of(v: &[i32], k: usize) -> u16
 fn triple_of(v: &[i32], i: usize, j: usize, k: usize) -> Triple
     ensures { λ r. ⌜ r ≡ tripleOf (now (v .entry)) i j k ⌝ }
 {
-    let x = number(v, i);
-    let y = number(v, j);
-    let z = number(v, k);
+    let x = word_at(v, i);
+    let y = word_at(v, j);
+    let z = word_at(v, k);
     Triple { x, y, z }
 }
 
 fn ranges_of(v: &[i32]) -> Ranges
     ensures { λ r. ⌜ r ≡ rangesOf (now (v .entry)) ⌝ }
 {
-    let amin = number(v, 8);
-    let amax = number(v, 9);
-    let bmin = number(v, 10);
-    let bmax = number(v, 11);
+    let amin = word_at(v, 8);
+    let amax = word_at(v, 9);
+    let bmin = word_at(v, 10);
+    let bmax = word_at(v, 11);
     Ranges {
         amin,
         amax,
@@ -97,10 +73,10 @@ fn ranges_of(v: &[i32]) -> Ranges
 fn four_of(v: &[i32], i: usize, j: usize, k: usize, l: usize) -> Four
     ensures { λ r. ⌜ r ≡ fourOf (now (v .entry)) i j k l ⌝ }
 {
-    let a = number(v, i);
-    let b = number(v, j);
-    let c = number(v, k);
-    let d = number(v, l);
+    let a = word_at(v, i);
+    let b = word_at(v, j);
+    let c = word_at(v, k);
+    let d = word_at(v, l);
     Four { a, b, c, d }
 }
 
@@ -109,7 +85,7 @@ fn gray_of(v: &[i32]) -> CalGray
 {
     let white = triple_of(v, 2, 3, 4);
     let black = triple_of(v, 5, 6, 7);
-    let gamma = number(v, 8);
+    let gamma = word_at(v, 8);
     CalGray {
         white,
         black,
