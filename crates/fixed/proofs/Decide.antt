@@ -1,6 +1,6 @@
 -- Decisions: a test of the code, which is what the definition's test says, and the answer is that of the branch taken.
-use mathlib.Core.Path.{_≡_, refl, sym, ap, _∙_}
-use mathlib.Core.Bool.{Bool, true, false, _&&_, true≢false, cond, not}
+use mathlib.Core.Path.{_≡_, refl, sym, _∙_}
+use mathlib.Core.Bool.{Bool, true, false, _&&_, _||_, true≢false, cond, not}
 use Prim.Native.Nat.{ℕ, _≤_, _<_}
 use borrow.Author.Tests.{eq-eqb, ne-eqb, lt-ltb, le-ltb, le-leb, lt-leb}
 use lib.Dec.{eqb, ltb, leb}
@@ -17,6 +17,16 @@ and-right false b e = absurd (true≢false (sym e))
 pub both : {a b : Bool} → a ≡ true → b ≡ true → (a && b) ≡ true
 both p q = rw (p, q)
 
+-- the second side of a test matters only where the first passed
+pub and-same : (a : Bool) {x y : Bool} → (a ≡ true → x ≡ y) → (a && x) ≡ (a && y)
+and-same true h = h refl
+and-same false h = refl
+
+-- one of two tests passed
+pub or-ind : {C : Type 0} (s t : Bool) → (s || t) ≡ true → (s ≡ true → C) → (t ≡ true → C) → C
+or-ind true t h f g = f refl
+or-ind false t h f g = g h
+
 pub not-true : (b : Bool) → not b ≡ true → b ≡ false
 not-true true e = sym e
 not-true false e = refl
@@ -29,6 +39,11 @@ not-false false e = sym e
 pub cond-ind : {A : Type 0} (P : A → Type 0) (t : Bool) {x y : A} → (t ≡ true → P x) → (t ≡ false → P y) → P (cond t x y)
 cond-ind P true f g = f refl
 cond-ind P false f g = g refl
+
+-- a test that refuses with k, and did not
+pub passed : (t : Bool) (x k : ℕ) → (k ≡ 0 → ⊥) → cond t x k ≡ 0 → (t ≡ true) × (x ≡ 0)
+passed true x k h e = (refl, e)
+passed false x k h e = absurd (h e)
 
 module _ {A : Type 0} where
   pub is-yes : (u : Bool) (a b r : A) {t : Bool} → t ≡ u → t ≡ true → r ≡ a → r ≡ cond u a b

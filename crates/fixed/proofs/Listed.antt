@@ -1,6 +1,6 @@
--- Laws of specs/Values.antt: lists that a function lists, values that it fills, and the index that a value picks.
+-- Laws of specs/Values.antt: lists that a function lists, values that it fills, and the index that a value picks; and lists of zeros.
 use mathlib.Core.Path.{_≡_, refl, ap, _∙_, sym, subst}
-use mathlib.Core.Bool.{true, false, cond}
+use mathlib.Core.Bool.{false, cond}
 use mathlib.Core.List.{List, [], _∷_, _++_}
 use Prim.Native.Nat.{ℕ, zero, suc, _+_, _*_, _≤_, _<_}
 use native.Mathlib.Nat.{le-refl, mul-le-mul, mul-add, mul-one, mul-comm}
@@ -9,7 +9,7 @@ use native.Mathlib.Omega.{arith}
 use native.Mathlib.Decide.{decLt}
 use lib.IntN.{ℤ, pos, negsuc, natAbs}
 use lib.Signed.{ltZ}
-use lib.ListN.{length, getD, set, length-append, List·getD-append, length-set}
+use lib.ListN.{length, getD, set, replicate, length-append, List·getD-append, length-set}
 use lib.Seq.{getD-at, sets}
 use borrow.Author.Tests.{ltb-false}
 use Rattle.fixed.specs.Numbers.{limited, halfUp, roundIndex}
@@ -99,3 +99,9 @@ row-room m h i k le lt =
     let r : m * (i + 1) ≤ m * (h + 1) = mul-le-mul (le-refl m) a in
     let s : m * (i + 1) ≡ i * m + m = rw (mul-add m i 1, mul-one m, mul-comm m i) in
     omega arith
+
+-- a list of zeros has 0 at every place, and past its end
+pub zeros-at : (m k : ℕ) → getD (replicate {A = ℕ} m 0) k 0 ≡ 0
+zeros-at zero k = refl
+zeros-at (suc m) zero = refl
+zeros-at (suc m) (suc k) = zeros-at m k

@@ -1,11 +1,12 @@
 -- What a test of two signed numbers says, of the numbers and not of their bits.
-use mathlib.Core.Path.{_≡_, refl, sym, _∙_, ap, subst}
-use mathlib.Core.Bool.{Bool, true, false}
+use mathlib.Core.Path.{_≡_, refl, sym, _∙_, subst}
+use mathlib.Core.Bool.{Bool, true, false, true≢false}
 use native.Mathlib.Omega.{arith}
 use lib.IntN.{ℤ, pos, negsuc, natAbs}
 use lib.Dec.{T}
 use lib.Signed.{mag, ltZ, leZ, nonNeg}
 use Prim.Native.Nat.{_<_, _^_}
+use borrow.Author.Tests.{leb-true, le-ltb}
 use mir.Syntax.{Width, w32}
 use mir.Val.{Fits, SFits, toZ, ofZ}
 use mir.ValLaws.{toZ-ofZ}
@@ -37,3 +38,10 @@ sign (negsuc n) e = subst (λ (b : Bool). T b) e tt
 pub fit : (z : ℤ) → mag z < 2 ^ 31 → T (nonNeg z) → Fits w32 (natAbs z)
 fit (pos n) h t = record { fits = omega arith }
 fit (negsuc n) h t = absurd t
+
+-- what is at most b has no b below it
+pub not-above : (a b : ℤ) → leZ a b ≡ true → ltZ b a ≡ false
+not-above (pos a) (pos b) h = le-ltb b a (leb-true a b h)
+not-above (pos a) (negsuc b) h = absurd (true≢false (sym h))
+not-above (negsuc a) (pos b) h = refl
+not-above (negsuc a) (negsuc b) h = le-ltb a b (leb-true b a h)

@@ -1,7 +1,7 @@
 -- The steps of a colour on its values: a list of numbers in millionths, of any length.
 use Prim.Native.Nat.{ℕ, zero, suc, _+_, _*_}
 use mathlib.Core.List.{List, [], _∷_, _++_}
-use lib.IntN.{ℤ, pos, natAbs}
+use lib.IntN.{ℤ, pos, negsuc, natAbs}
 use lib.ListN.{getD, set}
 use Rattle.fixed.specs.Numbers.{limited, roundIndex, tintPower, tintValue}
 
@@ -16,6 +16,11 @@ longest = 1045
 -- value k, 0 where there is none
 abbrev pub value : List ℤ → ℕ → ℤ
 value v k = getD v k (pos 0)
+
+-- a number that is not negative, as it is; a negative one is 4294967295, which is beyond every bound
+abbrev pub smallOf : ℤ → ℕ
+smallOf (pos n) = n
+smallOf (negsuc n) = 4294967295
 
 -- f 0, f 1, .., f (n - 1)
 unfoldable pub listed : (ℕ → ℤ) → ℕ → List ℤ

@@ -1,9 +1,11 @@
-// Fixed-point numbers: signed 32-bit counts of millionths, as a record or a colour component has them. How they stand in bytes, how they are
+// Fixed-point numbers: signed 32-bit counts of millionths, as a record or a colour component has them. How they stand in bytes and in lists, how they are
 // limited and rounded, and their floats.
 mod bytes;
+mod codes;
 mod float;
 mod limits;
 mod rounding;
+mod values;
 
 pub use bytes::byte;
 pub use bytes::number;
@@ -12,6 +14,7 @@ pub use bytes::put_number;
 pub use bytes::put_two;
 pub use bytes::to_signed;
 pub use bytes::two;
+pub use codes::is_device;
 pub use float::float_of;
 pub use limits::is_exponent;
 pub use limits::is_gamma;
@@ -22,6 +25,9 @@ pub use rounding::part_way;
 pub use rounding::round_index;
 pub use rounding::tint_power;
 pub use rounding::tint_value;
+pub use values::small_at;
+pub use values::start;
+pub use values::value_at;
 
 // How many values a colour's steps act on.
 pub const VALUES: usize = 4;
