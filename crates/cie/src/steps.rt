@@ -2,15 +2,16 @@
 ghost use mathlib.Core.Path.{_≡_};
 ghost use Rattle.cie.specs.Steps.{unitsOf, decoded, whiteOf, matrixOf, grayOf, rgbOf};
 use crate::Xyz;
+use fixed::float_of;
 
 // The white point of X and Z in millionths, Y being 1.
 pub fn white(xw: i32, zw: i32) -> Xyz
     ensures { λ r. ⌜ r ≡ whiteOf xw zw ⌝ }
 {
     Xyz {
-        x: (xw as f64) / 1000000.0,
+        x: float_of(xw),
         y: 1.0,
-        z: (zw as f64) / 1000000.0,
+        z: float_of(zw),
     }
 }
 
@@ -29,21 +30,9 @@ pub fn matrix(
     ensures { λ r. ⌜ r ≡ matrixOf xa ya za xb yb zb xc yc zc ⌝ }
 {
     [
-        [
-            (xa as f64) / 1000000.0,
-            (ya as f64) / 1000000.0,
-            (za as f64) / 1000000.0,
-        ],
-        [
-            (xb as f64) / 1000000.0,
-            (yb as f64) / 1000000.0,
-            (zb as f64) / 1000000.0,
-        ],
-        [
-            (xc as f64) / 1000000.0,
-            (yc as f64) / 1000000.0,
-            (zc as f64) / 1000000.0,
-        ],
+        [float_of(xa), float_of(ya), float_of(za)],
+        [float_of(xb), float_of(yb), float_of(zb)],
+        [float_of(xc), float_of(yc), float_of(zc)],
     ]
 }
 
