@@ -3,7 +3,7 @@ ghost use mathlib.Core.Path.{_≡_};
 ghost use Prim.Native.Nat.{_+_, _*_, _<_, _≤_};
 ghost use Rattle.fixed.specs.Bytes.{blocks};
 ghost use Rattle.fixed.specs.Numbers.{tintValue};
-ghost use Rattle.fixed.specs.Values.{places, value, filled, given};
+ghost use Rattle.fixed.specs.Values.{places, filled};
 ghost use Rattle.space.specs.Numbers.{innerAt};
 ghost use Rattle.space.specs.Spaces.{countOf};
 ghost use Rattle.space.specs.Pages.{spaceAt, entryOf, rowAt, tintAt, c0At, c1At};
@@ -22,29 +22,6 @@ use space::entry;
 use space::high;
 use space::inner;
 use space::low;
-
-// Component k, 0 where there is none.
-fn component(components: &[i32], k: usize) -> i32
-    ensures { λ r. ⌜ r ≡ value (now (components .entry)) k ⌝ }
-{
-    if k < components.len() {
-        components[k]
-    } else {
-        0
-    }
-}
-
-// The values at the start: those given, and 0.
-pub fn start(components: &[i32]) -> [i32; VALUES]
-    ensures { λ r. ⌜ r ≡ given places (now (components .entry)) ⌝ }
-{
-    [
-        component(components, 0),
-        component(components, 1),
-        component(components, 2),
-        component(components, 3),
-    ]
-}
 
 // The first m values, each limited to its range in the space at n.
 pub fn limit_all(page: &[u8], n: u32, m: u32, v: [i32; VALUES]) -> [i32; VALUES]

@@ -10,9 +10,9 @@ use lib.Dec.{leb}
 use lib.ListN.{length}
 use borrow.Author.Tests.{leb-true, not-true, not-false}
 use Rattle.fixed.specs.Numbers.{greatest, exponentSupported}
-use Rattle.fixed.specs.Values.{value, places}
+use Rattle.fixed.specs.Values.{value, smallOf, places}
 use Rattle.fixed.proofs.Decide.{and-left, and-right}
-use Rattle.runner.specs.Steps.{smallOf, fills}
+use Rattle.runner.specs.Steps.{fills}
 use Rattle.runner.specs.Ranges.{InRange}
 use Rattle.runner.specs.declared.Step.the-variants.{Row, Tint}
 

@@ -13,12 +13,12 @@ use lib.ListN.{length, drop, take, length-drop}
 use lib.Seq.{take-all, drop-drop}
 use borrow.Author.Tests.{ltb-true, ltb-false}
 use Rattle.fixed.specs.Numbers.{exponentSupported, gammaSupported}
-use Rattle.fixed.specs.Values.{value, places}
+use Rattle.fixed.specs.Values.{value, smallOf, places}
 use Rattle.fixed.proofs.Decide.{cond-ind}
 use Rattle.cie.specs.Answers.{Reply, refusal}
 use Rattle.cie.specs.declared.Closing.{Closing}
 use Rattle.cie.specs.declared.Closing.the-variants.{Gray, Rgb, Cmyk, CalGray, CalRgb, Lab}
-use Rattle.runner.specs.Steps.{smallOf, fills, limitRead, rowRead, tintRead, closeRead, grayWords, grayRead, rgbWords, rgbRead, labWords, stepBy, stepOf}
+use Rattle.runner.specs.Steps.{fills, limitRead, rowRead, tintRead, closeRead, grayWords, grayRead, rgbWords, rgbRead, labWords, stepBy, stepOf}
 use Rattle.runner.specs.Ranges.{InRange}
 use Rattle.runner.specs.Runs.{Turn, done, more, ended, stepped, acted, goes, runs}
 use Rattle.runner.proofs.Ranges.{row-range, tint-range}

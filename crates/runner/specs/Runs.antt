@@ -5,11 +5,11 @@ use mathlib.Core.List.{List, [], _∷_}
 use lib.IntN.{ℤ}
 use lib.Dec.{ltb, leb, eqb}
 use lib.ListN.{length, drop}
-use Rattle.fixed.specs.Values.{value, places, longest, given, limitStep, rowStep, tintStep}
+use Rattle.fixed.specs.Values.{value, smallOf, places, longest, given, limitStep, rowStep, tintStep}
 use Rattle.cie.specs.Answers.{Reply, refusal}
 use Rattle.cie.specs.Closings.{closed}
 use Rattle.cie.specs.declared.Closing.{Closing}
-use Rattle.runner.specs.Steps.{smallOf, fills, stepOf}
+use Rattle.runner.specs.Steps.{fills, stepOf}
 use Rattle.runner.specs.declared.Step.{Step}
 use Rattle.runner.specs.declared.Step.the-variants.{Limit, Row, Tint, Close}
 use Rattle.runner.specs.declared.Read.{Read}

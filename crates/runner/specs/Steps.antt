@@ -2,12 +2,12 @@
 use Prim.Native.Nat.{ℕ, _+_, _*_}
 use mathlib.Core.Bool.{Bool, cond, _&&_}
 use mathlib.Core.List.{List}
-use lib.IntN.{ℤ, pos, negsuc}
+use lib.IntN.{ℤ}
 use lib.Signed.{ltZ}
 use lib.Dec.{ltb, leb, eqb}
 use lib.ListN.{length}
 use Rattle.fixed.specs.Numbers.{exponentSupported, gammaSupported}
-use Rattle.fixed.specs.Values.{value, places}
+use Rattle.fixed.specs.Values.{value, smallOf, places}
 use Rattle.cie.specs.declared.GrayClosing.{GrayClosing}
 use Rattle.cie.specs.declared.RgbClosing.{RgbClosing}
 use Rattle.cie.specs.declared.LabClosing.{LabClosing}
@@ -17,11 +17,6 @@ use Rattle.runner.specs.declared.Step.{Step}
 use Rattle.runner.specs.declared.Step.the-variants.{Limit, Row, Tint, Close}
 use Rattle.runner.specs.declared.Read.{Read}
 use Rattle.runner.specs.declared.Read.the-variants.{At, Nothing}
-
--- a word that is not negative, as a number; a negative one is 4294967295, which is beyond every bound
-abbrev pub smallOf : ℤ → ℕ
-smallOf (pos n) = n
-smallOf (negsuc n) = 4294967295
 
 -- how many values a step fills: 1 to 4
 abbrev pub fills : ℕ → Bool

@@ -7,8 +7,6 @@ mod words;
 
 use cie::Closing;
 pub use running::run;
-pub use words::small_at;
-pub use words::word_at;
 
 // A step of a recipe, with its small numbers; its other numbers are read off its words.
 pub enum Step {

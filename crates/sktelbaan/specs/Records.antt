@@ -5,8 +5,7 @@ use mathlib.Core.List.{List, [], _∷_}
 use lib.Dec.{eqb, leb}
 use lib.IntN.{ℤ, pos}
 use lib.ListN.{length, replicate}
-use Rattle.fixed.specs.Values.{value}
-use Rattle.runner.specs.Steps.{smallOf}
+use Rattle.fixed.specs.Values.{value, smallOf}
 use Rattle.layout.specs.Field.{padded}
 use Rattle.record.specs.declared.types.Triple.{Triple}
 use Rattle.record.specs.declared.types.Ranges.{Ranges}

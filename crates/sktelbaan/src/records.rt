@@ -2,6 +2,8 @@
 ghost use mathlib.Core.Path.{_≡_};
 ghost use Rattle.layout.specs.Field.{padded};
 ghost use Rattle.sktelbaan.specs.Records.{small as smallIn, roomy, fitting, oneOf, twoOf, tripleOf, rangesOf, fourOf, grayOf, rgbOf, labOf, inkOf, bodyOf, recordOf, headed};
+use fixed::small_at;
+use fixed::value_at;
 use record::Body;
 use record::CalGray;
 use record::CalRgb;
@@ -11,8 +13,6 @@ use record::Ranges;
 use record::Record;
 use record::Separation;
 use record::Triple;
-use runner::small_at;
-use runner::word_at;
 
 fn is_roomy(k: u32, v: &[i32]) -> bool
     ensures { λ r. ⌜ r ≡ roomy k (now (v .entry)) ⌝ }
@@ -49,19 +49,19 @@ fn two_of(v: &[i32], k: usize) -> u16
 fn triple_of(v: &[i32], i: usize, j: usize, k: usize) -> Triple
     ensures { λ r. ⌜ r ≡ tripleOf (now (v .entry)) i j k ⌝ }
 {
-    let x = word_at(v, i);
-    let y = word_at(v, j);
-    let z = word_at(v, k);
+    let x = value_at(v, i);
+    let y = value_at(v, j);
+    let z = value_at(v, k);
     Triple { x, y, z }
 }
 
 fn ranges_of(v: &[i32]) -> Ranges
     ensures { λ r. ⌜ r ≡ rangesOf (now (v .entry)) ⌝ }
 {
-    let amin = word_at(v, 8);
-    let amax = word_at(v, 9);
-    let bmin = word_at(v, 10);
-    let bmax = word_at(v, 11);
+    let amin = value_at(v, 8);
+    let amax = value_at(v, 9);
+    let bmin = value_at(v, 10);
+    let bmax = value_at(v, 11);
     Ranges {
         amin,
         amax,
@@ -73,10 +73,10 @@ fn ranges_of(v: &[i32]) -> Ranges
 fn four_of(v: &[i32], i: usize, j: usize, k: usize, l: usize) -> Four
     ensures { λ r. ⌜ r ≡ fourOf (now (v .entry)) i j k l ⌝ }
 {
-    let a = word_at(v, i);
-    let b = word_at(v, j);
-    let c = word_at(v, k);
-    let d = word_at(v, l);
+    let a = value_at(v, i);
+    let b = value_at(v, j);
+    let c = value_at(v, k);
+    let d = value_at(v, l);
     Four { a, b, c, d }
 }
 
@@ -85,7 +85,7 @@ fn gray_of(v: &[i32]) -> CalGray
 {
     let white = triple_of(v, 2, 3, 4);
     let black = triple_of(v, 5, 6, 7);
-    let gamma = word_at(v, 8);
+    let gamma = value_at(v, 8);
     CalGray {
         white,
         black,

@@ -19,11 +19,11 @@ loop-holds : tie.Need-loop-holds Inv-loop μ-loop
 unfolding filled
 loop-holds c = (omega arith, refl)
 
-add-word-at : tie.Need-add-word-at Inv-loop μ-loop
-add-word-at c = search needs
+add-value-at : tie.Need-add-value-at Inv-loop μ-loop
+add-value-at c = search needs
 
-word-at-requires : tie.Need-word-at-requires Inv-loop μ-loop
-word-at-requires c κs = search needs
+value-at-requires : tie.Need-value-at-requires Inv-loop μ-loop
+value-at-requires c κs = search needs
 
 mul-u : tie.Need-mul-u Inv-loop μ-loop
 mul-u c = search needs
@@ -38,7 +38,7 @@ loop-less : tie.Need-loop-less Inv-loop μ-loop
 loop-less c = omega arith
 
 loop-again : tie.Need-loop-again Inv-loop μ-loop
-loop-again c = (omega arith, filled-turn (λ j. value (c .before .before .before .args .l .now) (c .before .before .before .args .at + j)) _ _ (c .before .before .loop .inv .1) (heard _ (c .word-at .ok) (c .word-at .ensures)))
+loop-again c = (omega arith, filled-turn (λ j. value (c .before .before .before .args .l .now) (c .before .before .before .args .at + j)) _ _ (c .before .before .loop .inv .1) (heard _ (c .value-at .ok) (c .value-at .ensures)))
 
 returns : tie.Need-returns Inv-loop μ-loop
 returns c = let e : c .before .loop .k ≡ c .before .before .args .m = omega arith in c .before .loop .inv .1 ∙ rw e
@@ -50,8 +50,8 @@ fill-row-spec =
     Inv-loop
     μ-loop
     loop-holds
-    add-word-at
-    word-at-requires
+    add-value-at
+    value-at-requires
     mul-u
     array-set-from-u
     add-k

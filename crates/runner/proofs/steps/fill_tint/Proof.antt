@@ -21,20 +21,20 @@ loop-holds : tie.Need-loop-holds Inv-loop μ-loop
 unfolding filled
 loop-holds c = (omega arith, refl)
 
-add-word-at : tie.Need-add-word-at Inv-loop μ-loop
-add-word-at c = search needs
+add-value-at : tie.Need-add-value-at Inv-loop μ-loop
+add-value-at c = search needs
 
-word-at-requires : tie.Need-word-at-requires Inv-loop μ-loop
-word-at-requires c κs = search needs
+value-at-requires : tie.Need-value-at-requires Inv-loop μ-loop
+value-at-requires c κs = search needs
 
-add-word-at-2 : tie.Need-add-word-at-2 Inv-loop μ-loop
-add-word-at-2 c = search needs
+add-value-at-2 : tie.Need-add-value-at-2 Inv-loop μ-loop
+add-value-at-2 c = search needs
 
-add-word-at-3 : tie.Need-add-word-at-3 Inv-loop μ-loop
-add-word-at-3 c = search needs
+add-value-at-3 : tie.Need-add-value-at-3 Inv-loop μ-loop
+add-value-at-3 c = search needs
 
-word-at-requires-2 : tie.Need-word-at-requires-2 Inv-loop μ-loop
-word-at-requires-2 c κs = search needs
+value-at-requires-2 : tie.Need-value-at-requires-2 Inv-loop μ-loop
+value-at-requires-2 c κs = search needs
 
 tint-value-requires : tie.Need-tint-value-requires Inv-loop μ-loop
 tint-value-requires c κs = search needs
@@ -55,8 +55,8 @@ loop-again : tie.Need-loop-again Inv-loop μ-loop
 loop-again c =
     let a = c .before .before .before .before .before .args in
     let f : ℕ → ℤ = λ j. tintValue (value (a .l .now) (3 + j)) (value (a .l .now) (3 + a .m + j)) (a .q) in
-    let c₀ = heard _ (c .before .before .word-at .ok) (c .before .before .word-at .ensures) in
-    let c₁ = heard _ (c .before .word-at2 .ok) (c .before .word-at2 .ensures) in
+    let c₀ = heard _ (c .before .before .value-at .ok) (c .before .before .value-at .ensures) in
+    let c₁ = heard _ (c .before .value-at2 .ok) (c .before .value-at2 .ensures) in
     (omega arith, filled-turn f _ _ (c .before .before .before .before .loop .inv .1) (heard _ (c .tint-value .ok) (c .tint-value .ensures ∙ simp (c₀, c₁))))
 
 returns : tie.Need-returns Inv-loop μ-loop
@@ -69,11 +69,11 @@ fill-tint-spec =
     Inv-loop
     μ-loop
     loop-holds
-    add-word-at
-    word-at-requires
-    add-word-at-2
-    add-word-at-3
-    word-at-requires-2
+    add-value-at
+    value-at-requires
+    add-value-at-2
+    add-value-at-3
+    value-at-requires-2
     tint-value-requires
     mul-u
     array-set-from-u

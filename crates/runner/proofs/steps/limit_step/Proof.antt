@@ -14,11 +14,11 @@ mul-limit c = search needs
 array-copy-out-limit : tie.Need-array-copy-out-limit
 array-copy-out-limit c = search needs
 
-word-at-requires : tie.Need-word-at-requires
-word-at-requires c κs = search needs
+value-at-requires : tie.Need-value-at-requires
+value-at-requires c κs = search needs
 
-word-at-requires-2 : tie.Need-word-at-requires-2
-word-at-requires-2 c κs = search needs
+value-at-requires-2 : tie.Need-value-at-requires-2
+value-at-requires-2 c κs = search needs
 
 limit-requires : tie.Need-limit-requires
 limit-requires c κs = search needs
@@ -35,8 +35,8 @@ returns c =
     let v = c .before .before .before .before .args .v in
     let k = c .before .before .before .before .args .k in
     let x = came (value v k) (c .before .before .before .limit-arg .given) in
-    let lo = heard _ (c .before .before .word-at .ok) (c .before .before .word-at .ensures) in
-    let hi = heard _ (c .before .word-at2 .ok) (c .before .word-at2 .ensures) in
+    let lo = heard _ (c .before .before .value-at .ok) (c .before .before .value-at .ensures) in
+    let hi = heard _ (c .before .value-at2 .ok) (c .before .value-at2 .ensures) in
     ap (λ (y : ℤ). set v k y) (heard _ (c .limit .ok) (c .limit .ensures ∙ simp (x, lo, hi)))
 
 pub limit-step-spec : {M : Type 1} → statement M
@@ -45,8 +45,8 @@ limit-step-spec =
     (tie.spec
     mul-limit
     array-copy-out-limit
-    word-at-requires
-    word-at-requires-2
+    value-at-requires
+    value-at-requires-2
     limit-requires
     mul-u
     array-set-from-u

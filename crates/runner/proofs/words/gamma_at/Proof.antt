@@ -6,14 +6,14 @@ use borrow.Author.Needs.{needs}
 use Rattle.runner.proofs.words.gamma_at.Statement.{statement}
 use Rattle.runner.proofs.words.gamma_at.Tie as tie
 
-word-at-requires : tie.Need-word-at-requires
-word-at-requires c κs = search needs
+value-at-requires : tie.Need-value-at-requires
+value-at-requires c κs = search needs
 
 is-gamma-requires : tie.Need-is-gamma-requires
 is-gamma-requires c κs = search needs
 
 returns : tie.Need-returns
-returns c = c .is-gamma .ensures ∙ ap gammaSupported (heard _ (c .before .word-at .ok) (c .before .word-at .ensures))
+returns c = c .is-gamma .ensures ∙ ap gammaSupported (heard _ (c .before .value-at .ok) (c .before .value-at .ensures))
 
 pub gamma-at-spec : {M : Type 1} → statement M
-gamma-at-spec = tie.close (tie.spec word-at-requires is-gamma-requires returns)
+gamma-at-spec = tie.close (tie.spec value-at-requires is-gamma-requires returns)

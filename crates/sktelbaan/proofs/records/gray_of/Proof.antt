@@ -10,11 +10,11 @@ triple-of-requires c κs = search needs
 triple-of-requires-2 : tie.Need-triple-of-requires-2
 triple-of-requires-2 c κs = search needs
 
-word-at-requires : tie.Need-word-at-requires
-word-at-requires c κs = search needs
+value-at-requires : tie.Need-value-at-requires
+value-at-requires c κs = search needs
 
 returns : tie.Need-returns
-returns c = λ i. record { white = c .before .before .triple-of .ensures i; black = c .before .triple-of2 .ensures i; gamma = heard _ (c .word-at .ok) (c .word-at .ensures) i }
+returns c = λ i. record { white = c .before .before .triple-of .ensures i; black = c .before .triple-of2 .ensures i; gamma = heard _ (c .value-at .ok) (c .value-at .ensures) i }
 
 pub gray-of-spec : {M : Type 1} → statement M
-gray-of-spec = tie.close (tie.spec triple-of-requires triple-of-requires-2 word-at-requires returns)
+gray-of-spec = tie.close (tie.spec triple-of-requires triple-of-requires-2 value-at-requires returns)

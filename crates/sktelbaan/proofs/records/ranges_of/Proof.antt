@@ -4,22 +4,22 @@ use borrow.Author.Needs.{needs}
 use Rattle.sktelbaan.proofs.records.ranges_of.Statement.{statement}
 use Rattle.sktelbaan.proofs.records.ranges_of.Tie as tie
 
-word-at-requires : tie.Need-word-at-requires
-word-at-requires c κs = search needs
+value-at-requires : tie.Need-value-at-requires
+value-at-requires c κs = search needs
 
-word-at-requires-2 : tie.Need-word-at-requires-2
-word-at-requires-2 c κs = search needs
+value-at-requires-2 : tie.Need-value-at-requires-2
+value-at-requires-2 c κs = search needs
 
-word-at-requires-3 : tie.Need-word-at-requires-3
-word-at-requires-3 c κs = search needs
+value-at-requires-3 : tie.Need-value-at-requires-3
+value-at-requires-3 c κs = search needs
 
-word-at-requires-4 : tie.Need-word-at-requires-4
-word-at-requires-4 c κs = search needs
+value-at-requires-4 : tie.Need-value-at-requires-4
+value-at-requires-4 c κs = search needs
 
 returns : tie.Need-returns
-returns c = λ i. record { amin = heard _ (c .before .before .before .word-at .ok) (c .before .before .before .word-at .ensures) i; amax = heard _ (c .before .before .word-at2 .ok) (c .before .before .word-at2 .ensures) i; bmin = heard _ (c .before .word-at3 .ok) (c .before .word-at3 .ensures) i; bmax = heard _ (c .word-at4 .ok) (c .word-at4 .ensures) i }
+returns c = λ i. record { amin = heard _ (c .before .before .before .value-at .ok) (c .before .before .before .value-at .ensures) i; amax = heard _ (c .before .before .value-at2 .ok) (c .before .before .value-at2 .ensures) i; bmin = heard _ (c .before .value-at3 .ok) (c .before .value-at3 .ensures) i; bmax = heard _ (c .value-at4 .ok) (c .value-at4 .ensures) i }
 
 pub ranges-of-spec : {M : Type 1} → statement M
 ranges-of-spec =
     tie.close
-    (tie.spec word-at-requires word-at-requires-2 word-at-requires-3 word-at-requires-4 returns)
+    (tie.spec value-at-requires value-at-requires-2 value-at-requires-3 value-at-requires-4 returns)

@@ -4,17 +4,17 @@ use borrow.Author.Needs.{needs}
 use Rattle.sktelbaan.proofs.records.triple_of.Statement.{statement}
 use Rattle.sktelbaan.proofs.records.triple_of.Tie as tie
 
-word-at-requires : tie.Need-word-at-requires
-word-at-requires c κs = search needs
+value-at-requires : tie.Need-value-at-requires
+value-at-requires c κs = search needs
 
-word-at-requires-2 : tie.Need-word-at-requires-2
-word-at-requires-2 c κs = search needs
+value-at-requires-2 : tie.Need-value-at-requires-2
+value-at-requires-2 c κs = search needs
 
-word-at-requires-3 : tie.Need-word-at-requires-3
-word-at-requires-3 c κs = search needs
+value-at-requires-3 : tie.Need-value-at-requires-3
+value-at-requires-3 c κs = search needs
 
 returns : tie.Need-returns
-returns c = λ i. record { x = heard _ (c .before .before .word-at .ok) (c .before .before .word-at .ensures) i; y = heard _ (c .before .word-at2 .ok) (c .before .word-at2 .ensures) i; z = heard _ (c .word-at3 .ok) (c .word-at3 .ensures) i }
+returns c = λ i. record { x = heard _ (c .before .before .value-at .ok) (c .before .before .value-at .ensures) i; y = heard _ (c .before .value-at2 .ok) (c .before .value-at2 .ensures) i; z = heard _ (c .value-at3 .ok) (c .value-at3 .ensures) i }
 
 pub triple-of-spec : {M : Type 1} → statement M
-triple-of-spec = tie.close (tie.spec word-at-requires word-at-requires-2 word-at-requires-3 returns)
+triple-of-spec = tie.close (tie.spec value-at-requires value-at-requires-2 value-at-requires-3 returns)
