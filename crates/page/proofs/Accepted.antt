@@ -1,6 +1,6 @@
 -- An accepted page: no refusal is due of its length, nor of any of its blocks.
-use mathlib.Core.Path.{_≡_, refl, _∙_}
-use mathlib.Core.Bool.{Bool, true, false, cond, _&&_}
+use mathlib.Core.Path.{_≡_, _∙_}
+use mathlib.Core.Bool.{true, _&&_}
 use mathlib.Core.List.{List}
 use Prim.Native.Nat.{ℕ, _+_, _*_, _/_, _≤_, _<_}
 use native.Mathlib.Decide.{decLt}
@@ -10,7 +10,8 @@ use lib.Dec.{eqb, ltb}
 use lib.ListN.{length, List·getD-eq-default}
 use lib.Seq.{getD-drop}
 use Rattle.fixed.specs.Bytes.{blocks, blockAt, byteAt}
-use Rattle.fixed.proofs.Decide.{cond-ind, and-left, and-right}
+use Rattle.fixed.proofs.Decide.{cond-ind, passed, and-left, and-right}
+use Rattle.fixed.proofs.Scans.{first-none, first-all}
 use Rattle.record.specs.Layout.{checked}
 use Rattle.record.specs.Reading.{ownAt, bodyAt}
 use Rattle.record.specs.Rules.{formed, lawful, supported}
@@ -18,16 +19,10 @@ use Rattle.space.specs.Numbers.{kindAt}
 use Rattle.page.specs.Outcomes.{Outcome, accepted, refused}
 use Rattle.page.specs.Validation.{wellSized, faultOne, faultTwo, faultOwed, owedAt, permitted, held, passes, validated}
 use Rattle.page.proofs.Sizes.{sized-whole, sized-most}
-use Rattle.page.proofs.Firsts.{first-none, first-all}
 
 -- a refusal is no acceptance
 never : (k i : ℕ) → refused k i ≡ accepted → ⊥
 never k i e = let z : _≡_ {A = ℕ} 0 1 = cc in omega arith
-
--- a test that refuses with k, and did not
-passed : (t : Bool) (x k : ℕ) → (k ≡ 0 → ⊥) → cond t x k ≡ 0 → (t ≡ true) × (x ≡ 0)
-passed true x k h e = (refl, e)
-passed false x k h e = absurd (h e)
 
 -- a number of a kind below 64 is below 64, and that is its block's byte 0
 kind-below : (page : List ℕ) (n k : ℕ) → k < blocks → kindAt page n ≡ k → (n < blocks) × (byteAt (blockAt page n) 0 ≡ k)

@@ -1,6 +1,6 @@
 -- Each block of an accepted page, taken by itself, is a block that nothing is refused of.
 use mathlib.Core.Path.{_≡_, refl, sym, ap, _∙_}
-use mathlib.Core.Bool.{Bool, true, false, _&&_, _||_, true≢false, cond}
+use mathlib.Core.Bool.{Bool, true, false, _&&_, _||_, true≢false, or-true, cond}
 use mathlib.Core.List.{List}
 use Prim.Native.Nat.{ℕ, _*_, _/_, _≤_, _<_}
 use native.Mathlib.Omega.{arith}
@@ -28,10 +28,6 @@ use Rattle.page.proofs.Bytes.{ownBytes, checked-within, formed-within, 
 none-due : (a b c d e : Bool) → a ≡ true → b ≡ true → c ≡ true → d ≡ true → e ≡ true → _≡_ {A = ℕ} (cond a (cond b (cond c (cond d (cond e 0 6) 5) 4) 3) 3) 0
 none-due a b c d e h₁ h₂ h₃ h₄ h₅ = rw (h₁, h₂, h₃, h₄, h₅)
 
-or-right : (a : Bool) {b : Bool} → b ≡ true → (a || b) ≡ true
-or-right true e = refl
-or-right false e = e
-
 -- a number of a kind permitted is a device code or one that a block can have
 module _ (page : List ℕ) (b : ℕ) where
   -- of a number that can be no block's, a kind permitted is a device code
@@ -39,7 +35,7 @@ module _ (page : List ℕ) (b : ℕ) where
   Coded k = ltb k blocks ≡ false → device k ≡ true
 
   referring : (t : Bool) → ltb b blocks ≡ t → (ltb b blocks ≡ false → device b ≡ true) → (device b || ltb b blocks) ≡ true
-  referring true e h = or-right (device b) e
+  referring true e h = rw e (or-true (device b))
   referring false e h = rw (h e)
 
   pub base-refers : baseKind (kindAt page b) ≡ true → (device b || ltb b blocks) ≡ true

@@ -1,15 +1,15 @@
 -- What is read of a block is read of its 512 bytes: two lists that agree on those say the same.
-use mathlib.Core.Path.{_≡_, refl, sym, ap, _∙_}
-use mathlib.Core.Bool.{Bool, _&&_, cond}
+use mathlib.Core.Path.{_≡_, sym, ap, _∙_}
+use mathlib.Core.Bool.{_&&_, cond}
 use mathlib.Core.List.{List}
-use Prim.Native.Nat.{ℕ, zero, suc, _+_, _-_, _*_, _≤_, _<_}
+use Prim.Native.Nat.{ℕ, _+_, _-_, _*_, _≤_, _<_}
 use native.Mathlib.Omega.{arith}
 use lib.Dec.{eqb, leb}
 use lib.ListN.{take}
 use lib.Seq.{getD-take}
 use Rattle.fixed.specs.Bytes.{blockAt, byteAt, twoAt, numberAt}
-use Rattle.fixed.specs.Loops.{allFrom, zeroBetween}
-use Rattle.fixed.proofs.Scans.{total-same}
+use Rattle.fixed.specs.Loops.{zeroBetween}
+use Rattle.fixed.proofs.Scans.{total-same, all-same}
 use Rattle.record.specs.Layout.{namedTo, plain, weighed, checked}
 use Rattle.record.specs.Reading.{kindAt, ownAt, tripleAt, fourAt as fourNumbersAt, grayAt, rgbAt, labAt, separationAt, bodyBy, bodyAt}
 use Rattle.record.specs.Rules.{known, nameShown, formed}
@@ -17,12 +17,6 @@ use Rattle.record.specs.declared.types.Body.{Body}
 use Rattle.record.specs.declared.types.Body.the-variants.{Free, CalGray, CalRgb, Lab, Indexed, Separation, Palette}
 use Rattle.record.proofs.Shapes.{name-same}
 use Rattle.page.specs.Validation.{faultOne}
-
--- a scan finds the same where the tests agree
-all-same : (f g : ℕ → Bool) (n k : ℕ) → ((i : ℕ) → k ≤ i → i < k + n → f i ≡ g i) → allFrom f k n ≡ allFrom g k n
-unfolding allFrom
-all-same f g zero k h = refl
-all-same f g (suc n) k h = λ j. h k (omega arith) (omega arith) j && all-same f g n (suc k) (λ i l m. h i (omega arith) (omega arith)) j
 
 module _ (b c : List ℕ) (same : (k : ℕ) → k < 512 → byteAt b k ≡ byteAt c k) where
   -- numbers
@@ -36,7 +30,7 @@ module _ (b c : List ℕ) (same : (k : ℕ) → k < 512 → byteAt b k ≡ byteA
 
   zero-same : (from to : ℕ) → to ≤ 512 → zeroBetween b from to ≡ zeroBetween c from to
   unfolding zeroBetween
-  zero-same from to l = all-same _ _ (to - from) from (λ i m o. ap (λ (x : ℕ). eqb x 0) (same i (omega arith)))
+  zero-same from to l = all-same _ _ from from (to - from) (λ i m. ap (λ (x : ℕ). eqb x 0) (same (from + i) (omega arith)))
 
   -- the check and the own number
   pub checked-same : checked b ≡ checked c

@@ -1,12 +1,13 @@
 -- A block 0 of 512 zero bytes is an accepted page of no spaces.
 use mathlib.Core.Path.{_≡_, refl, ap, _∙_}
 use mathlib.Core.List.{List}
-use Prim.Native.Nat.{ℕ, zero, suc, _+_, _*_, _<_}
+use Prim.Native.Nat.{ℕ, _+_, _*_, _<_}
 use borrow.Author.Tests.{lt-ltb}
-use lib.ListN.{replicate, getD}
+use lib.ListN.{replicate}
 use lib.Seq.{getD-drop}
 use Rattle.fixed.specs.Bytes.{blocks}
 use Rattle.fixed.specs.Loops.{total, allFrom, zeroBetween, firstFrom}
+use Rattle.fixed.proofs.Listed.{zeros-at}
 use Rattle.record.specs.Layout.{plain, weighed, checked}
 use Rattle.record.specs.Reading.{bodyBy}
 use Rattle.record.specs.Rules.{known, nameShown, formed, lawful, supported}
@@ -24,15 +25,10 @@ pub zero-accepted : validated zeroPage ≡ accepted
 unfolding validated wellSized faultOne faultTwo faultOwed owedAt permitted held checked plain weighed bodyBy known nameShown formed lawful supported total allFrom zeroBetween firstFrom
 zero-accepted = refl
 
--- every byte of it, and every block's kind, is 0
-all-zero : (m k : ℕ) → getD (replicate {A = ℕ} m 0) k 0 ≡ 0
-all-zero zero k = refl
-all-zero (suc m) zero = refl
-all-zero (suc m) (suc k) = all-zero m k
-
+-- every block's kind is 0
 zero-kind : (n : ℕ) → n < blocks → kindAt zeroPage n ≡ 0
 unfolding kindAt
-zero-kind n l = simp (lt-ltb n blocks l) (getD-drop (512 * n) zeroPage 0 0 ∙ all-zero 512 (512 * n + 0))
+zero-kind n l = simp (lt-ltb n blocks l) (getD-drop (512 * n) zeroPage 0 0 ∙ zeros-at 512 (512 * n + 0))
 
 -- no block number is a space's
 pub zero-none : (n : ℕ) → n < blocks → spaceAt zeroPage n ≡ none

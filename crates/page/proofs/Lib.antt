@@ -1,6 +1,5 @@
 -- Laws of validation and of accepted pages that several proofs cite, here and in the crates above.
 pub mod Sizes
-pub mod Firsts
 pub mod Accepted
 pub mod Permits
 pub mod Wholes

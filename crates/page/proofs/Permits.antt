@@ -1,22 +1,18 @@
 -- A reference to a permitted kind: it falls in rank, so it is the space within, and that has components.
-use mathlib.Core.Path.{_≡_, refl, sym, subst}
-use mathlib.Core.Bool.{Bool, true, false, _||_, cond}
+use mathlib.Core.Path.{_≡_, sym, subst}
+use mathlib.Core.Bool.{true, _||_, cond}
 use mathlib.Core.List.{List}
 use Prim.Native.Nat.{ℕ, _≤_, _<_}
 use native.Mathlib.Omega.{arith}
 use borrow.Author.Tests.{eqb-true, lt-ltb}
 use lib.Dec.{eqb}
 use Rattle.fixed.specs.Bytes.{grayCode, rgbCode, cmykCode}
+use Rattle.fixed.proofs.Decide.{or-ind}
 use Rattle.space.specs.Numbers.{kindAt, rankAt, referenceAt, innerAt}
 use Rattle.space.specs.Spaces.{countOf}
 use Rattle.space.specs.Pages.{plainBy, tintedBy, spaceBy, spaceAt}
 use Rattle.space.proofs.Ranks.{rank-indexed, rank-separation}
 use Rattle.page.specs.Validation.{alternateKind, baseKind}
-
--- one of two tests passed
-or-ind : {C : Type 0} (s t : Bool) → (s || t) ≡ true → (s ≡ true → C) → (t ≡ true → C) → C
-or-ind true t h f g = f refl
-or-ind false t h f g = g h
 
 -- what holds of each kind that an alternate may have, and a base
 module _ (P : ℕ → Type 0) (a : P grayCode) (b : P rgbCode) (c : P cmykCode) (d : P 1) (e : P 2) (f : P 3) where

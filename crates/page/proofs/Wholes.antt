@@ -1,16 +1,16 @@
 -- On an accepted page the space at every number, if it has components, is whole.
 use mathlib.Core.Path.{_≡_, refl, sym, subst, _∙_}
-use mathlib.Core.Bool.{Bool, true, false, true≢false}
+use mathlib.Core.Bool.{Bool, true, false}
 use mathlib.Core.List.{List}
 use Prim.Native.Nat.{ℕ, _≤_, _<_}
 use native.Mathlib.Omega.{arith}
-use borrow.Author.Tests.{eqb-true, eqb-false, leb-true, le-ltb}
+use borrow.Author.Tests.{eqb-true, eqb-false, leb-true}
 use lib.Dec.{eqb}
-use lib.IntN.{ℤ, pos, negsuc}
 use lib.Signed.{ltZ, leZ}
 use Rattle.fixed.specs.Bytes.{blocks, grayCode, rgbCode, cmykCode, blockAt, numberAt}
 use Rattle.fixed.specs.Numbers.{exponentSupported, gammaSupported}
 use Rattle.fixed.proofs.Decide.{cond-ind, and-left, and-right}
+use Rattle.fixed.proofs.Signs.{not-above}
 use Rattle.record.specs.Reading.{tripleAt, bodyBy}
 use Rattle.record.specs.Rules.{whitePoint, blackPoint, ordered, lawful, supported}
 use Rattle.space.specs.Numbers.{kindAt, referenceAt, innerAt, hivalAt, exponentAt, rankAt}
@@ -42,13 +42,6 @@ pub record Good (page : List ℕ) : Type 0 where
   pub exponent : (n : ℕ) → kindAt page n ≡ 5 → exponentSupported (exponentAt page n) ≡ true
   pub alternate : (n : ℕ) → kindAt page n ≡ 5 → alternateKind (kindAt page (referenceAt page n)) ≡ true
   pub alternate-count : (n : ℕ) → kindAt page n ≡ 5 → 1 ≤ countOf (spaceAt page (innerAt page n))
-
--- what is at most b has no b below it
-not-above : (a b : ℤ) → leZ a b ≡ true → ltZ b a ≡ false
-not-above (pos a) (pos b) h = le-ltb b a (leb-true a b h)
-not-above (pos a) (negsuc b) h = absurd (true≢false (sym h))
-not-above (negsuc a) (pos b) h = refl
-not-above (negsuc a) (negsuc b) h = le-ltb a b (leb-true b a h)
 
 module _ (page : List ℕ) (ok : validated page ≡ accepted) where
   -- what the second pass says of the body of a block of kind k

@@ -7,6 +7,7 @@ ghost use Rattle.page.specs.Outcomes.{accepted, refused, meaning};
 ghost use Rattle.page.specs.Validation.{alternateKind, baseKind, permitted, paletteSize, runLength, palettes, runHeld, unusedZero, owedAfter, held, faultOwed, faultTwo};
 ghost use Rattle.record.specs.Reading.{bodyAt};
 use crate::Verdict;
+use fixed::is_device;
 use fixed::two;
 use record::Body;
 use record::body_at;
@@ -20,7 +21,7 @@ use space::kind;
 fn is_alternate(k: u32) -> bool
     ensures { λ r. ⌜ r ≡ alternateKind k ⌝ }
 {
-    ((k == 0xFF01) | ((k == 0xFF03) | (k == 0xFF04))) | ((k == 1) | ((k == 2) | (k == 3)))
+    is_device(k) | ((k == 1) | ((k == 2) | (k == 3)))
 }
 
 fn is_base(k: u32) -> bool
@@ -67,7 +68,7 @@ fn less(x: u32) -> u32
     if x == 0 { 0 } else { x - 1 }
 }
 
-// Whether the bytes of block n from `from` to below `to` are zero.
+// Whether the blocks from `from` to below `to` are all palette blocks.
 fn all_palettes(page: &[u8], from: u32, to: u32) -> bool
     ensures { λ r. ⌜ r ≡ palettes (now (page .entry)) from to ⌝ }
 {

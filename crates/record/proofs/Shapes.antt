@@ -3,7 +3,6 @@ use mathlib.Core.Path.{_≡_, refl, sym, ap, _∙_}
 use mathlib.Core.List.{List}
 use mathlib.Core.Bool.{Bool, true, false, _&&_, cond, not}
 use Prim.Native.Nat.{ℕ, zero, suc, _+_, _-_, _<_, _≤_}
-use native.Mathlib.Nat.{add-zero}
 use native.Mathlib.Omega.{arith}
 use borrow.Author.Tests.{leb-true}
 use lib.ListN.{length, getD, drop, replicate, getD-replicate, List·getD-append}
@@ -11,31 +10,13 @@ use lib.Seq.{getD-append-add, getD-drop}
 use lib.Dec.{eqb, leb, ltb}
 use Rattle.fixed.specs.Bytes.{byteAt}
 use Rattle.fixed.specs.Loops.{allFrom, zeroBetween}
-use Rattle.fixed.proofs.Decide.{and-left}
+use Rattle.fixed.proofs.Decide.{and-left, and-same}
+use Rattle.fixed.proofs.Scans.{all-same}
 use Rattle.layout.specs.Field.{padded}
 use Rattle.layout.proofs.Held.{length-padded, getD-padded, all-zero}
 use Rattle.record.specs.Reading.{kindAt, ownAt, bodyBy, runAt, bytesBy, recordAt}
 use Rattle.fixed.specs.Bytes.{blocks}
 use Rattle.record.specs.Rules.{noneZero, nameFits, known, nameShown, formed, used, named, shaped}
-
--- a scan finds the same at two places where the tests agree one by one
-all-same : (f g : ℕ → Bool) (j k n : ℕ) → ((i : ℕ) → i < n → f (j + i) ≡ g (k + i)) → allFrom f j n ≡ allFrom g k n
-unfolding allFrom
-all-same f g j k zero h = refl
-all-same f g j k (suc n) h = λ i. head i && all-same f g (suc j) (suc k) n tail i
-  where
-    head : f j ≡ g k
-    head = let p : j + 0 ≡ j = add-zero j in let q : k + 0 ≡ k = add-zero k in rw (p, q) at (h 0 (omega arith))
-
-    tail : (i : ℕ) → i < n → f (suc j + i) ≡ g (suc k + i)
-    tail i l =
-        let p : j + suc i ≡ suc j + i = omega arith in
-        let q : k + suc i ≡ suc k + i = omega arith in
-        rw (p, q) at (h (suc i) (omega arith))
-
-and-same : (a : Bool) {x y : Bool} → (a ≡ true → x ≡ y) → (a && x) ≡ (a && y)
-and-same true h = h refl
-and-same false h = refl
 
 -- the name rule sees the same name at two places of two lists where the 128 bytes there agree
 pub name-same : (s t : List ℕ) (j k n : ℕ) → ((i : ℕ) → i < 128 → byteAt s (j + i) ≡ byteAt t (k + i)) → nameFits s j n ≡ nameFits t k n

@@ -16,7 +16,6 @@ pub use read::body_at;
 pub use read::own_at;
 pub use read::record_at;
 pub use rules::fault;
-pub use rules::is_device;
 pub use rules::is_lawful;
 pub use rules::is_referring;
 pub use rules::is_supported;

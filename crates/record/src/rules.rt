@@ -4,7 +4,6 @@ ghost use mathlib.Core.Bool.{_&&_};
 ghost use lib.IntN.{pos};
 ghost use lib.Signed.{ltZ};
 ghost use Rattle.fixed.specs.Numbers.{gammaSupported};
-ghost use Rattle.fixed.specs.Bytes.{device};
 ghost use Rattle.record.specs.Rules.{whitePoint, blackPoint, ordered, lawful, supported, refers, faultOf};
 use crate::shape::is_shaped;
 use crate::types::Body;
@@ -15,6 +14,7 @@ use crate::types::NUMBERS;
 use crate::types::Ranges;
 use crate::types::Record;
 use crate::types::Triple;
+use fixed::is_device;
 use fixed::is_exponent;
 use fixed::is_gamma;
 
@@ -106,13 +106,6 @@ pub fn is_supported(y: Body) -> bool
     }
 }
 
-// Whether a number is a device space's code.
-pub fn is_device(n: u16) -> bool
-    ensures { λ r. ⌜ r ≡ device n ⌝ }
-{
-    (n == 0xFF01) | ((n == 0xFF03) | (n == 0xFF04))
-}
-
 // Whether the reference of a body, if it has one, is a device code or a number that a block can have: else it is refused with 6.
 pub fn is_referring(y: Body) -> bool
     ensures { λ r. ⌜ r ≡ refers y ⌝ }
@@ -122,8 +115,8 @@ pub fn is_referring(y: Body) -> bool
         Body::CalGray(_) => true,
         Body::CalRgb(_) => true,
         Body::Lab(_) => true,
-        Body::Indexed { base, hival: _ } => is_device(base) | (base < NUMBERS),
-        Body::Separation(p) => is_device(p.alternate) | (p.alternate < NUMBERS),
+        Body::Indexed { base, hival: _ } => is_device(base as u32) | (base < NUMBERS),
+        Body::Separation(p) => is_device(p.alternate as u32) | (p.alternate < NUMBERS),
         Body::Palette => true,
     }
 }

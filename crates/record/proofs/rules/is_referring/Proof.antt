@@ -19,11 +19,17 @@ enum-told-4 c = search needs
 enum-known-y : tie.Need-enum-known-y
 enum-known-y c = search needs
 
+cast-is-device : tie.Need-cast-is-device
+cast-is-device c = search needs
+
 is-device-requires : tie.Need-is-device-requires
 is-device-requires c κs = search needs
 
 enum-known-y-2 : tie.Need-enum-known-y-2
 enum-known-y-2 c = search needs
+
+cast-is-device-2 : tie.Need-cast-is-device-2
+cast-is-device-2 c = search needs
 
 is-device-requires-2 : tie.Need-is-device-requires-2
 is-device-requires-2 c κs = search needs
@@ -53,7 +59,7 @@ returns-5 c = rw (c .before .before .y .given .1, c .is-device .ensures)
 
 returns-6 : tie.Need-returns-6
 unfolding refers
-returns-6 c = rw (c .before .before .before .y2 .given .1, c .before .is-device2 .ensures)
+returns-6 c = rw (c .before .before .before .before .y2 .given .1, c .before .is-device2 .ensures)
 
 returns-7 : tie.Need-returns-7
 unfolding refers
@@ -68,8 +74,10 @@ is-referring-spec =
     enum-told-3
     enum-told-4
     enum-known-y
+    cast-is-device
     is-device-requires
     enum-known-y-2
+    cast-is-device-2
     is-device-requires-2
     enum-told-5
     returns
