@@ -9,5 +9,6 @@ pub mod Powers
 pub mod Stores
 pub mod Decide
 pub mod Scans
+pub mod Totals
 pub mod Listed
 pub mod Trips

@@ -101,6 +101,21 @@ module _ (f : ℕ → Bool) (from to : ℕ) where
   unfolding allFrom
   passing-end k a h = let e : to - k ≡ 0 = omega arith in sym (a .rest ∙ rw e)
 
+  -- The same of a loop that goes on to the end, and gathers in z whether those below k pass.
+  pub record Gathered (z : Bool) (k : ℕ) : Type 0 where
+    pub rest : allBetween f from to ≡ (z && allFrom f k (to - k))
+
+  pub gathered-start : Gathered true from
+  gathered-start = record { rest = refl }
+
+  pub gathered-turn : (z t : Bool) (k : ℕ) → Gathered z k → k < to → t ≡ f k → Gathered (z && t) (k + 1)
+  gathered-turn true t k g h e = record { rest = g .rest ∙ all-more k h ∙ ap (λ (u : Bool). u && allFrom f (k + 1) (to - (k + 1))) (sym e) }
+  gathered-turn false t k g h e = record { rest = g .rest }
+
+  pub gathered-end : (z : Bool) (k : ℕ) → Gathered z k → to ≤ k → z ≡ allBetween f from to
+  gathered-end true k g h = passing-end k (record { rest = g .rest }) h
+  gathered-end false k g h = sym (g .rest)
+
 -- a scan finds the same at two places where the tests agree one by one
 pub all-same : (f g : ℕ → Bool) (j k n : ℕ) → ((i : ℕ) → i < n → f (j + i) ≡ g (k + i)) → allFrom f j n ≡ allFrom g k n
 unfolding allFrom

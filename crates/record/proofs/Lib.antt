@@ -3,4 +3,3 @@ pub mod Sums
 pub mod Runs
 pub mod Ranges
 pub mod Shapes
-pub mod Tallies

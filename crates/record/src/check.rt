@@ -1,9 +1,11 @@
 // The check of a block: two sums over its first 508 bytes.
 ghost use mathlib.Core.Path.{_≡_};
-ghost use Prim.Native.Nat.{_+_, _*_, _≤_};
+ghost use Prim.Native.Nat.{_+_, _*_, _<_, _≤_};
 ghost use lib.ListN.{length};
 ghost use Rattle.fixed.specs.Bytes.{blockAt};
 ghost use Rattle.record.specs.Layout.{plain, weighed, checked};
+ghost use Rattle.record.specs.Columns.{columnSum, columnRunning};
+use fixed::byte;
 use fixed::two;
 
 // The two sums, modulo 65535: the bytes as they are, and each times its distance from byte 508.
@@ -12,26 +14,55 @@ pub struct Sums {
     pub weighed: u32,
 }
 
-// The sums of block n, in one pass.
+// A column of a block, which is laid out as 16 rows of 32 bytes: the sum of its bytes, and the sums of its bytes down to each row, summed.
+struct Column {
+    sum: u16,
+    running: u16,
+}
+
+// Column k of block n.
+fn sum_column(page: &[u8], n: u32, k: usize) -> Column
+    requires { ⌜ (512 * n + 512 ≤ length (now page)) × (k < 32) ⌝ }
+    ensures is { λ r. ⌜ (r .sum ≡ columnSum (blockAt (now (page .entry)) n) k) × (r .running ≡ columnRunning (blockAt (now (page .entry)) n) k) ⌝ }
+    ensures small { λ r. ⌜ (r .sum ≤ 4080) × (r .running ≤ 65280) ⌝ }
+{
+    let start = 512 * (n as usize) + k;
+    let mut sum: u16 = 0;
+    let mut running: u16 = 0;
+    let mut row: usize = 0;
+    while row < 16 {
+        sum += page[start + 32 * row] as u16;
+        running += sum;
+        row += 1;
+    }
+    Column { sum, running }
+}
+
+// The sums of block n, column by column: byte i, in column k, counts 32 times in each row that it reaches, which is k + 4 more than 508 - i. The last four
+// bytes hold the check, and are taken off.
 pub fn sum_up(page: &[u8], n: u32) -> Sums
     requires { ⌜ 512 * n + 512 ≤ length (now page) ⌝ }
     ensures { λ r. ⌜ (r .plain ≡ plain (blockAt (now (page .entry)) n)) × (r .weighed ≡ weighed (blockAt (now (page .entry)) n)) ⌝ }
 {
-    let start = 512 * (n as usize);
-    let mut p: u32 = 0;
-    let mut w: u32 = 0;
-    let mut left: u32 = 508;
+    let mut sum: u32 = 0;
+    let mut running: u32 = 0;
+    let mut over: u32 = 0;
     let mut k: usize = 0;
-    while k < 508 {
-        let x = page[start + k] as u32;
-        p += x;
-        w += left * x;
-        left -= 1;
+    while k < 32 {
+        let c = sum_column(page, n, k);
+        let s = c.sum as u32;
+        sum += s;
+        running += c.running as u32;
+        over += (k as u32 + 4) * s;
         k += 1;
     }
+    let a = byte(page, n, 508);
+    let b = byte(page, n, 509);
+    let c = byte(page, n, 510);
+    let d = byte(page, n, 511);
     Sums {
-        plain: p % 65535,
-        weighed: w % 65535,
+        plain: (sum - (a + b + c + d)) % 65535,
+        weighed: (32 * running + b + 2 * c + 3 * d - over) % 65535,
     }
 }
 

@@ -2,7 +2,6 @@
 ghost use mathlib.Core.Path.{_≡_};
 ghost use mathlib.Core.List.{List};
 ghost use Prim.Native.Nat.{ℕ, _+_, _*_, _≤_};
-ghost use lib.Dec.{eqb};
 ghost use lib.ListN.{length};
 ghost use Rattle.fixed.specs.Bytes.{blockAt};
 ghost use Rattle.fixed.specs.Loops.{zeroBetween};
@@ -14,24 +13,24 @@ use crate::types::NUMBERS;
 use crate::types::Record;
 use fixed::byte;
 
-// The sum of the bytes from `from` to below `to` of block n, which the page has: 0 just where all of them are zero.
-fn sum_between(page: &[u8], n: u32, from: u32, to: u32) -> u32
+// Whether the bytes from `from` to below `to` of block n, which the page has, are zero: it looks at each of them.
+fn all_zero(page: &[u8], n: u32, from: u32, to: u32) -> bool
     requires { ⌜ (to ≤ 512) × (512 * n + 512 ≤ length (now page)) ⌝ }
-    ensures { λ r. ⌜ eqb r 0 ≡ zeroBetween (blockAt (now (page .entry)) n) from to ⌝ }
+    ensures { λ r. ⌜ r ≡ zeroBetween (blockAt (now (page .entry)) n) from to ⌝ }
 {
     let start = 512 * (n as usize);
     let end = to as usize;
-    let mut sum: u32 = 0;
+    let mut zero = true;
     let mut k = from as usize;
     while k < end {
-        let x = page[start + k] as u32;
-        sum += x;
+        let z = page[start + k] == 0;
+        zero = zero & z;
         k += 1;
     }
-    sum
+    zero
 }
 
-// The same byte by byte, for bytes that the page may not have.
+// The same of bytes that the page may not have.
 fn scan_zero(page: &[u8], n: u32, from: u32, to: u32) -> bool
     ensures { λ r. ⌜ r ≡ zeroBetween (blockAt (now (page .entry)) n) from to ⌝ }
 {
@@ -51,7 +50,7 @@ pub fn zero_between(page: &[u8], n: u32, from: u32, to: u32) -> bool
 {
     if to <= 512 {
         if 512 * (n as usize) + 512 <= page.len() {
-            return sum_between(page, n, from, to) == 0;
+            return all_zero(page, n, from, to);
         }
     }
     scan_zero(page, n, from, to)

@@ -1,52 +1,52 @@
--- `sum_up` sums: after k turns it has the sums of the bytes below k.
-use mathlib.Core.Path.{_≡_, sym}
-use Prim.Native.Nat.{_+_, _-_, _*_, _≤_}
+-- `sum_up` goes across the columns, and takes the last four bytes off.
+use mathlib.Core.Path.{_≡_, ap, sym, _∙_}
+use Prim.Native.Nat.{ℕ, _+_, _-_, _*_, _%_, _≤_}
 use native.Mathlib.Omega.{arith}
 use denote.Ref.{now}
 use lib.ListN.{getD, drop}
-use lib.Seq.{getD-drop}
-use Rattle.record.specs.Layout.{plain, weighed}
-use Rattle.record.proofs.Sums.{Summed, product, turn}
 use Rattle.fixed.specs.Loops.{total}
+use Rattle.record.specs.Layout.{plain, weighed}
+use Rattle.record.proofs.Sums.{Across, product, across, Settled, settles}
 use borrow.Author.Needs.{needs}
 use Rattle.record.proofs.check.sum_up.Statement.{statement}
 use Rattle.record.proofs.check.sum_up.Tie as tie
 
 abbrev Inv-loop : tie.InvT-loop
-Inv-loop page n start p₀ w₀ left₀ k₀ p w left k = Summed (λ j. getD (drop (512 * n) page) j 0) p w left k
+Inv-loop page n sum₀ running₀ over₀ k₀ sum running over k = Across (drop (512 * n) page) sum running over k
 
 abbrev μ-loop : tie.MeasureT-loop
-μ-loop page n start p₀ w₀ left₀ k₀ p w left k = 508 - k
-
-mul-start : tie.Need-mul-start Inv-loop μ-loop
-mul-start c = search needs
+μ-loop page n sum₀ running₀ over₀ k₀ sum running over k = 32 - k
 
 loop-holds : tie.Need-loop-holds Inv-loop μ-loop
 unfolding total
 loop-holds c = search needs
 
-add-x : tie.Need-add-x Inv-loop μ-loop
-add-x c = search needs
+sum-column-requires : tie.Need-sum-column-requires Inv-loop μ-loop
+sum-column-requires c κs = search needs
 
-shared-slice-read-x : tie.Need-shared-slice-read-x Inv-loop μ-loop
-shared-slice-read-x c = search needs
+cast-s : tie.Need-cast-s Inv-loop μ-loop
+cast-s c = search needs
 
-cast-x : tie.Need-cast-x Inv-loop μ-loop
-cast-x c = omega (arith, c .shared-slice-known .given (512 * c .before .before .before .args .n + c .before .before .loop .k))
+add-sum : tie.Need-add-sum Inv-loop μ-loop
+add-sum c = search needs
 
-add-p : tie.Need-add-p Inv-loop μ-loop
-add-p c = omega (arith, c .shared-slice-known .given (512 * c .before .before .before .args .n + c .before .before .loop .k))
+cast-running : tie.Need-cast-running Inv-loop μ-loop
+cast-running c = search needs
 
-mul-w : tie.Need-mul-w Inv-loop μ-loop
-mul-w c = let m : (getD (now (c .before .before .before .args .page)) (512 * c .before .before .before .args .n + c .before .before .loop .k) 0) ≤ 255 = omega (arith, c .shared-slice-known .given (512 * c .before .before .before .args .n + c .before .before .loop .k)) in
-    omega (arith, product (c .before .before .loop .left) (getD (now (c .before .before .before .args .page)) (512 * c .before .before .before .args .n + c .before .before .loop .k) 0) _ (c .before .before .loop .inv .rest) m)
+add-running : tie.Need-add-running Inv-loop μ-loop
+add-running c = search needs
 
-add-w : tie.Need-add-w Inv-loop μ-loop
-add-w c = let m : (getD (now (c .before .before .before .args .page)) (512 * c .before .before .before .args .n + c .before .before .loop .k) 0) ≤ 255 = omega (arith, c .shared-slice-known .given (512 * c .before .before .before .args .n + c .before .before .loop .k)) in
-    omega (arith, product (c .before .before .loop .left) (getD (now (c .before .before .before .args .page)) (512 * c .before .before .before .args .n + c .before .before .loop .k) 0) _ (c .before .before .loop .inv .rest) m)
+cast-over : tie.Need-cast-over Inv-loop μ-loop
+cast-over c = search needs
 
-sub-left : tie.Need-sub-left Inv-loop μ-loop
-sub-left c = search needs
+add-over : tie.Need-add-over Inv-loop μ-loop
+add-over c = search needs
+
+mul-over : tie.Need-mul-over Inv-loop μ-loop
+mul-over c = omega (arith, product (c .before .before .before .before .loop .k) (c .before .before .sum-column .result .sum) (c .before .before .before .loop-test .taken) (c .before .before .sum-column .ensures .1 .0))
+
+add-over-2 : tie.Need-add-over-2 Inv-loop μ-loop
+add-over-2 c = omega (arith, c .before .before .before .before .loop .inv .over-most, product (c .before .before .before .before .loop .k) (c .before .before .sum-column .result .sum) (c .before .before .before .loop-test .taken) (c .before .before .sum-column .ensures .1 .0))
 
 add-k : tie.Need-add-k Inv-loop μ-loop
 add-k c = search needs
@@ -55,12 +55,64 @@ loop-less : tie.Need-loop-less Inv-loop μ-loop
 loop-less c = search needs
 
 loop-again : tie.Need-loop-again Inv-loop μ-loop
-loop-again c = let m : (getD (now (c .before .before .before .args .page)) (512 * c .before .before .before .args .n + c .before .before .loop .k) 0) ≤ 255 = omega (arith, c .shared-slice-known .given (512 * c .before .before .before .args .n + c .before .before .loop .k)) in
-    turn _ _ _ _ (c .before .before .loop .k) (getD (now (c .before .before .before .args .page)) (512 * c .before .before .before .args .n + c .before .before .loop .k) 0) (c .before .before .loop .inv) (c .before .loop-test .taken) (sym (getD-drop (512 * c .before .before .before .args .n) (now (c .before .before .before .args .page)) (c .before .before .loop .k) 0)) m
+loop-again c =
+    let e = c .before .before .sum-column .ensures in
+    across _ _ _ _ (c .before .before .before .before .loop .k) (c .before .before .sum-column .result .sum) (c .before .before .sum-column .result .running) (c .before .before .before .before .loop .inv) (c .before .before .before .loop-test .taken) (e .0 .0) (e .0 .1) (e .1 .0) (e .1 .1)
+
+byte-requires : tie.Need-byte-requires Inv-loop μ-loop
+byte-requires c κs = search needs
+
+byte-requires-2 : tie.Need-byte-requires-2 Inv-loop μ-loop
+byte-requires-2 c κs = search needs
+
+byte-requires-3 : tie.Need-byte-requires-3 Inv-loop μ-loop
+byte-requires-3 c κs = search needs
+
+byte-requires-4 : tie.Need-byte-requires-4 Inv-loop μ-loop
+byte-requires-4 c κs = search needs
+
+add-t17 : tie.Need-add-t17 Inv-loop μ-loop
+add-t17 c = search needs
+
+add-t18 : tie.Need-add-t18 Inv-loop μ-loop
+add-t18 c = search needs
+
+add-t19 : tie.Need-add-t19 Inv-loop μ-loop
+add-t19 c = search needs
+
+sub-t20 : tie.Need-sub-t20 Inv-loop μ-loop
+sub-t20 c =
+    let z = settles _ _ _ _ _ (c .before .before .before .byte .result) (c .before .before .byte2 .result) (c .before .byte3 .result) (c .byte4 .result) (c .before .before .before .before .before .loop .inv) (omega (arith, c .before .before .before .before .before .loop .inv .within)) (c .before .before .before .byte .ensures .0) (c .before .before .byte2 .ensures .0) (c .before .byte3 .ensures .0) (c .byte4 .ensures .0) in
+    omega (arith, z .sum-least)
+
+mul-t22 : tie.Need-mul-t22 Inv-loop μ-loop
+mul-t22 c = search needs
+
+add-t23 : tie.Need-add-t23 Inv-loop μ-loop
+add-t23 c = search needs
+
+mul-t24 : tie.Need-mul-t24 Inv-loop μ-loop
+mul-t24 c = search needs
+
+add-t25 : tie.Need-add-t25 Inv-loop μ-loop
+add-t25 c = search needs
+
+mul-t26 : tie.Need-mul-t26 Inv-loop μ-loop
+mul-t26 c = search needs
+
+add-t27 : tie.Need-add-t27 Inv-loop μ-loop
+add-t27 c = search needs
+
+sub-t28 : tie.Need-sub-t28 Inv-loop μ-loop
+sub-t28 c =
+    let z = settles _ _ _ _ _ (c .before .before .before .byte .result) (c .before .before .byte2 .result) (c .before .byte3 .result) (c .byte4 .result) (c .before .before .before .before .before .loop .inv) (omega (arith, c .before .before .before .before .before .loop .inv .within)) (c .before .before .before .byte .ensures .0) (c .before .before .byte2 .ensures .0) (c .before .byte3 .ensures .0) (c .byte4 .ensures .0) in
+    omega (arith, z .over-least)
 
 returns : tie.Need-returns Inv-loop μ-loop
 unfolding plain weighed
-returns c = let i = c .before .loop .inv in let e : c .before .loop .k ≡ 508 = omega arith in (rw (i .plain-is, e), rw (i .weighed-is, e))
+returns c =
+    let z = settles _ _ _ _ _ (c .before .before .before .byte .result) (c .before .before .byte2 .result) (c .before .byte3 .result) (c .byte4 .result) (c .before .before .before .before .before .loop .inv) (omega (arith, c .before .before .before .before .before .loop .inv .within)) (c .before .before .before .byte .ensures .0) (c .before .before .byte2 .ensures .0) (c .before .byte3 .ensures .0) (c .byte4 .ensures .0) in
+    (ap (λ (x : ℕ). x % 65535) (z .plain-is), ap (λ (x : ℕ). x % 65535) (z .weighed-is))
 
 pub sum-up-spec : {M : Type 1} → statement M
 sum-up-spec =
@@ -68,16 +120,32 @@ sum-up-spec =
     (tie.spec
     Inv-loop
     μ-loop
-    mul-start
     loop-holds
-    add-x
-    shared-slice-read-x
-    cast-x
-    add-p
-    mul-w
-    add-w
-    sub-left
+    sum-column-requires
+    cast-s
+    add-sum
+    cast-running
+    add-running
+    cast-over
+    add-over
+    mul-over
+    add-over-2
     add-k
     loop-less
     loop-again
+    byte-requires
+    byte-requires-2
+    byte-requires-3
+    byte-requires-4
+    add-t17
+    add-t18
+    add-t19
+    sub-t20
+    mul-t22
+    add-t23
+    mul-t24
+    add-t25
+    mul-t26
+    add-t27
+    sub-t28
     returns)
