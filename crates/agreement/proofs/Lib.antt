@@ -1,4 +1,3 @@
 -- Running the recipe of a space replies what the space replies.
-pub mod Short
 pub mod Spaces
 pub mod Pages

@@ -1,5 +1,5 @@
 -- Demand 3, from the definitions: on an accepted page the recipe of a number replies to every list of components what the page replies.
-use mathlib.Core.Path.{_≡_, refl, sym, ap, _∙_, subst}
+use mathlib.Core.Path.{_≡_, refl, sym, ap, _∙_}
 use mathlib.Core.Bool.{Bool, true, false, cond}
 use mathlib.Core.List.{List, _++_}
 use Prim.Native.Nat.{ℕ, _+_, _≤_}
@@ -22,9 +22,9 @@ use Rattle.space.specs.Wholes.{Whole}
 use Rattle.colour.specs.Colours.{valued, answered}
 use Rattle.colour.specs.Evaluating.{onAccepted, evaluated}
 use Rattle.recipe.specs.Recipes.{recipeOf}
-use Rattle.recipe.specs.Writes.{Reply as Wrote, wrote, refusal as unwritten, replied, left}
+use Rattle.recipe.specs.Writes.{wrote, refusal as unwritten, replied, left}
 use Rattle.recipe.specs.Writing.{onAccepted as onWritten, whereAccepted, writeReply, writeLeft}
-use Rattle.agreement.proofs.Short.{recipe-short}
+use Rattle.recipe.proofs.Longest.{recipe-short}
 use Rattle.agreement.proofs.Spaces.{count-low, recipe-replies}
 
 -- ---- the theorem

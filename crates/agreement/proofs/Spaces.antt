@@ -1,15 +1,15 @@
 -- Running the recipe of a space that is well made replies what the space replies: by the laws of the runner's steps, and induction on the space.
 use mathlib.Core.Path.{_≡_, refl, ap, _∙_}
 use mathlib.Core.Bool.{false, cond}
-use mathlib.Core.List.{List, [], _∷_, _++_, append-assoc}
-use Prim.Native.Nat.{ℕ, zero, suc, _+_, _≤_, _<_}
+use mathlib.Core.List.{List, _++_, append-assoc}
+use Prim.Native.Nat.{ℕ, zero, suc, _≤_}
 use native.Mathlib.Omega.{arith}
 use lib.IntN.{ℤ, pos}
 use lib.Signed.{ltZ}
 use lib.Dec.{eqb}
 use lib.ListN.{length}
 use borrow.Author.Tests.{ne-eqb}
-use Rattle.fixed.specs.Values.{places, given, limitStep, rowStep, tintStep}
+use Rattle.fixed.specs.Values.{places, given, rowStep, tintStep}
 use Rattle.cie.specs.Answers.{refusal}
 use Rattle.cie.specs.Closings.{closed}
 use Rattle.runner.specs.Runs.{runs, ran}
@@ -18,8 +18,8 @@ use Rattle.space.specs.Spaces.{Space, none, gray, rgb, cmyk, calGray, calRgb, l
 use Rattle.space.specs.Wholes.{Whole}
 use Rattle.space.proofs.Counts.{count-high}
 use Rattle.recipe.specs.Recipes.{limitWords, limitsOf, closingWords, endsOf, stepsOf, recipeOf}
+use Rattle.recipe.proofs.Longest.{recipe-short}
 use Rattle.colour.specs.Colours.{limitedTo, settled, valued, answered}
-use Rattle.agreement.proofs.Short.{recipe-short}
 
 -- ---- the limits of the first m components
 

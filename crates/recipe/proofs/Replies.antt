@@ -1,7 +1,7 @@
 -- What writing replies and leaves: refusal 8, then 10, then the recipe.
 use mathlib.Core.Path.{_≡_, sym, ap, _∙_}
 use mathlib.Core.List.{List}
-use Prim.Native.Nat.{ℕ, _+_, _<_, _≤_}
+use Prim.Native.Nat.{ℕ, _<_, _≤_}
 use native.Mathlib.Omega.{arith}
 use lib.IntN.{ℤ, pos}
 use lib.ListN.{length, set}
@@ -12,36 +12,30 @@ use Rattle.space.specs.Spaces.{Space, countOf}
 use Rattle.recipe.specs.Recipes.{stepsOf, recipeOf}
 use Rattle.recipe.specs.Writes.{wrote, refusal, replied, left}
 
--- m being the space's count, and r the words of its steps
+-- m being the space's count, and r the words of its recipe
 module _ (s : Space) (d : List ℤ) (m : ℕ) (em : m ≡ countOf s) where
   pub reply-none : m ≡ 0 → (refusal 8 0 ≡ replied s d) × (d ≡ left s d)
   unfolding replied left
   reply-none z = let k = eq-eqb (countOf s) 0 (sym em ∙ z) in (simp k, simp k)
 
-  module _ (some : m ≡ 0 → ⊥) (r : ℕ) (er : r ≡ length (stepsOf s)) where
+  module _ (some : m ≡ 0 → ⊥) (r : ℕ) (er : r ≡ length (recipeOf s)) where
     some' : countOf s ≡ 0 → ⊥
     some' z = some (em ∙ z)
 
-    size : length (recipeOf s) ≡ 1 + r
-    unfolding recipeOf
-    size = omega arith
-
-    pub reply-short : length d < 1 + r → (refusal 10 0 ≡ replied s d) × (d ≡ left s d)
+    pub reply-short : length d < r → (refusal 10 0 ≡ replied s d) × (d ≡ left s d)
     unfolding replied left
     reply-short h =
-        let e = size in
         let k = lt-leb (length (recipeOf s)) (length d) (omega arith) in
         let z = ne-eqb (countOf s) 0 some' in
         (simp (z, k), simp (z, k))
 
-    pub reply-words : (w : ℤ) (y : List ℤ) → w ≡ pos m → 1 + r ≤ length d → y ≡ sets (set d 0 w) 1 (stepsOf s) → (wrote (1 + r) ≡ replied s d) × (y ≡ left s d)
+    pub reply-words : (w : ℤ) (y : List ℤ) → w ≡ pos m → r ≤ length d → y ≡ sets (set d 0 w) 1 (stepsOf s) → (wrote r ≡ replied s d) × (y ≡ left s d)
     unfolding replied left recipeOf
     reply-words w y ew h ey =
-        let e = size in
         let l : length (recipeOf s) ≤ length d = omega arith in
         let k = le-leb (length (recipeOf s)) (length d) l in
         let z = ne-eqb (countOf s) 0 some' in
         let f : y ≡ sets d 0 (recipeOf s) = ey ∙ ap (λ (x : ℤ). sets (set d 0 x) 1 (stepsOf s)) (ew ∙ ap pos em) in (
-          ap wrote (sym size) ∙ simp (z, k),
+          ap wrote er ∙ simp (z, k),
           f ∙ (sets-front (recipeOf s) d l ∙ simp (z, k)),
         )

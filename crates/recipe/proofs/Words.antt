@@ -35,7 +35,7 @@ limits-turn s d at k {w = w} {lo} {hi} e hw hl hh g =
     then (limitsOf s k) d at (at + 4 * k) (pos 1 ∷ w ∷ lo ∷ hi ∷ []) j e g ∙ rw (add-one, hw, hl, hh)
 
 module _ (s : Space) (c : Closing) (m : ℕ) (em : m ≡ countOf s) (ec : c ≡ closingOf s) where
-  pub ends-length : length (endsOf s) ≡ 4 * m + length (closingWords c)
+  ends-length : length (endsOf s) ≡ 4 * m + length (closingWords c)
   ends-length =
       length-append (limitsOf s (countOf s)) (closingWords (closingOf s)) ∙
       (ap (λ (j : ℕ). j + length (closingWords (closingOf s))) (limits-length s (countOf s)) ∙ rw (em, ec))
@@ -60,11 +60,11 @@ rgb-set d at ga gb gc xa ya za xb yb zb xc yc zc eu ex ey ez =
 
 -- ---- Steps 2 and 3, over the space at the inner number, which the code has as b, of m components
 
-pub row-size : (page : List ℕ) (n : ℕ) (s : Space) → length (rowWords page n s) ≡ 3 + countOf s * (hivalAt page n + 1)
+row-size : (page : List ℕ) (n : ℕ) (s : Space) → length (rowWords page n s) ≡ 3 + countOf s * (hivalAt page n + 1)
 unfolding rowWords
 row-size page n s = let e = table-length page n s in omega arith
 
-pub tint-size : (page : List ℕ) (n : ℕ) (s : Space) → length (tintWords page n s) ≡ 3 + countOf s + countOf s
+tint-size : (page : List ℕ) (n : ℕ) (s : Space) → length (tintWords page n s) ≡ 3 + countOf s + countOf s
 unfolding tintWords
 tint-size page n s =
     let e : length (c0Of page n s ++ c1Of page n s) ≡ countOf s + countOf s =
@@ -78,10 +78,10 @@ module _ (page : List ℕ) (n b m : ℕ) (em : m ≡ countOf (spaceAt page b)) (
   counted : m ≡ countOf base
   counted = em ∙ ap (λ (i : ℕ). countOf (spaceAt page i)) eb
 
-  pub row-length : (h : ℕ) → h ≡ hivalAt page n → length (rowWords page n base) ≡ 3 + m * (h + 1)
+  row-length : (h : ℕ) → h ≡ hivalAt page n → length (rowWords page n base) ≡ 3 + m * (h + 1)
   row-length h eh = row-size page n base ∙ rw (counted, eh)
 
-  pub tint-length : length (tintWords page n base) ≡ 3 + m + m
+  tint-length : length (tintWords page n base) ≡ 3 + m + m
   tint-length = tint-size page n base ∙ rw counted
 
   module _ (at : ℕ) (d : List ℤ) where
@@ -92,30 +92,38 @@ module _ (page : List ℕ) (n b m : ℕ) (em : m ≡ countOf (spaceAt page b)) (
     tint-fits r = let e = tint-length in omega arith
 
     module _ (h : ℕ) (eh : h ≡ hivalAt page n) (u : List ℤ) (w₁ w₂ : ℤ) (e₁ : w₁ ≡ pos m) (e₂ : w₂ ≡ pos h) (eu : u ≡ sets d at (pos 2 ∷ w₁ ∷ w₂ ∷ [])) where
-      pub row-set : (y : List ℤ) → y ≡ sets u (at + 3) (listed (entryOf page n (spaceAt page b)) (m * (h + 1))) → y ≡ sets d at (rowWords page n base)
+      row-stored : (y : List ℤ) → y ≡ sets u (at + 3) (listed (entryOf page n (spaceAt page b)) (m * (h + 1))) → y ≡ sets d at (rowWords page n base)
       unfolding rowWords tableOf
-      row-set y ey =
+      row-stored y ey =
           then (pos 2 ∷ w₁ ∷ w₂ ∷ []) d at (at + 3) (listed (entryOf page n (spaceAt page b)) (m * (h + 1))) refl eu ey ∙
           rw (e₁, e₂, eh)
           (ap (λ (j : ℕ). sets d at (pos 2 ∷ pos j ∷ pos (hivalAt page n) ∷ listed (entryOf page n (spaceAt page b)) (j * (hivalAt page n + 1)))) counted ∙
           ap (λ (i : ℕ). sets d at (pos 2 ∷ pos (countOf base) ∷ pos (hivalAt page n) ∷ listed (entryOf page n (spaceAt page i)) (countOf base * (hivalAt page n + 1)))) eb)
 
-      -- over nothing there are no entries
-      pub row-none : m ≡ 0 → u ≡ sets d at (rowWords page n base)
-      unfolding listed
-      row-none z = let k : m * (h + 1) ≡ 0 = rw z (omega arith) in row-set u (rw k)
+      -- the words, and the place after them
+      pub row-set : (y : List ℤ) → y ≡ sets u (at + 3) (listed (entryOf page n (spaceAt page b)) (m * (h + 1)))
+          → (y ≡ sets d at (rowWords page n base)) × (at + 3 + m * (h + 1) ≡ at + length (rowWords page n base))
+      row-set y ey = let e = row-length h eh in (row-stored y ey, omega arith)
 
-    pub tint-set : (u y z : List ℤ) (w₁ w₂ : ℤ) → w₁ ≡ pos (exponentAt page n) → w₂ ≡ pos m → u ≡ sets d at (pos 3 ∷ w₁ ∷ w₂ ∷ [])
-        → y ≡ sets u (at + 3) (listed (λ k. c0At page n k) m) → z ≡ sets y (at + 3 + m) (listed (λ k. c1At page n k) m)
-        → z ≡ sets d at (tintWords page n base)
-    unfolding tintWords c0Of c1Of
-    tint-set u y z w₁ w₂ e₁ e₂ eu ey ez =
-        let hd : List ℤ = pos 3 ∷ w₁ ∷ w₂ ∷ [] in
-        let f : List ℤ = listed (λ k. c0At page n k) m in
-        let g : List ℤ = listed (λ k. c1At page n k) m in
-        let y' : y ≡ sets d at (hd ++ f) = then hd d at (at + 3) f refl eu ey in
-        let l : at + 3 + m ≡ at + length (hd ++ f) = let q : length f ≡ m = listed-length _ m in omega arith in
-        let z' : z ≡ sets d at ((hd ++ f) ++ g) = then (hd ++ f) d at (at + 3 + m) g l y' ez in
-        z' ∙
-        rw (e₁, e₂)
-        (ap (λ (j : ℕ). sets d at (pos 3 ∷ pos (exponentAt page n) ∷ pos j ∷ (listed (λ k. c0At page n k) j ++ listed (λ k. c1At page n k) j))) counted)
+      -- over nothing there are no entries
+      pub row-none : m ≡ 0 → (u ≡ sets d at (rowWords page n base)) × (at + 3 ≡ at + length (rowWords page n base))
+      unfolding listed
+      row-none z = let k : m * (h + 1) ≡ 0 = rw z (omega arith) in let r = row-set u (rw k) in (r .0, omega (arith, r .1))
+
+    module _ (u y z : List ℤ) (w₁ w₂ : ℤ) (e₁ : w₁ ≡ pos (exponentAt page n)) (e₂ : w₂ ≡ pos m) (eu : u ≡ sets d at (pos 3 ∷ w₁ ∷ w₂ ∷ []))
+        (ey : y ≡ sets u (at + 3) (listed (λ k. c0At page n k) m)) (ez : z ≡ sets y (at + 3 + m) (listed (λ k. c1At page n k) m)) where
+      tint-stored : z ≡ sets d at (tintWords page n base)
+      unfolding tintWords c0Of c1Of
+      tint-stored =
+          let hd : List ℤ = pos 3 ∷ w₁ ∷ w₂ ∷ [] in
+          let f : List ℤ = listed (λ k. c0At page n k) m in
+          let g : List ℤ = listed (λ k. c1At page n k) m in
+          let y' : y ≡ sets d at (hd ++ f) = then hd d at (at + 3) f refl eu ey in
+          let l : at + 3 + m ≡ at + length (hd ++ f) = let q : length f ≡ m = listed-length _ m in omega arith in
+          let z' : z ≡ sets d at ((hd ++ f) ++ g) = then (hd ++ f) d at (at + 3 + m) g l y' ez in
+          z' ∙
+          rw (e₁, e₂)
+          (ap (λ (j : ℕ). sets d at (pos 3 ∷ pos (exponentAt page n) ∷ pos j ∷ (listed (λ k. c0At page n k) j ++ listed (λ k. c1At page n k) j))) counted)
+
+      pub tint-set : (z ≡ sets d at (tintWords page n base)) × (at + 3 + 2 * m ≡ at + length (tintWords page n base))
+      tint-set = let e = tint-length in (tint-stored, omega arith)

@@ -12,22 +12,6 @@ use cie::GrayClosing;
 use cie::LabClosing;
 use cie::RgbClosing;
 
-// How many words a closing step has.
-pub fn closing_length(k: Closing) -> u32
-    ensures is { λ r. ⌜ r ≡ length (closingWords k) ⌝ }
-    ensures small { λ r. ⌜ r ≤ 13 ⌝ }
-{
-    match k {
-        Closing::Nothing => 0,
-        Closing::Gray => 1,
-        Closing::Rgb => 1,
-        Closing::Cmyk => 1,
-        Closing::CalGray(_) => 4,
-        Closing::CalRgb(_) => 13,
-        Closing::Lab(_) => 3,
-    }
-}
-
 // X and Z of the white point, and the gamma.
 fn put_gray(k: GrayClosing, words: &mut [i32], at: usize)
     requires { ⌜ at + 4 ≤ length (now words) ⌝ }

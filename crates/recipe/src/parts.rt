@@ -75,29 +75,34 @@ pub fn put_ends(page: &[u8], n: u32, words: &mut [i32], at: usize)
     put_closing(closing_at(page, n), words, at + 4 * (m as usize));
 }
 
-// Step 2 of the Indexed block n.
-pub fn put_row(page: &[u8], n: u32, words: &mut [i32], at: usize)
+// Step 2 of the Indexed block n, from `at` on; the place after it.
+pub fn put_row(page: &[u8], n: u32, words: &mut [i32], at: usize) -> usize
     requires { ⌜ (n < blocks) × (at + length (rowWords (now page) n (spaceAt (now page) (innerAt (now page) n))) ≤ length (now words)) ⌝ }
-    ensures { λ _. ⌜ now (words .exit) ≡ sets (now (words .entry)) at (rowWords (now (page .entry)) n (spaceAt (now (page .entry)) (innerAt (now (page .entry)) n))) ⌝ }
+    ensures stores { λ _. ⌜ now (words .exit) ≡ sets (now (words .entry)) at (rowWords (now (page .entry)) n (spaceAt (now (page .entry)) (innerAt (now (page .entry)) n))) ⌝ }
+    ensures next { λ r. ⌜ r ≡ at + length (rowWords (now (page .entry)) n (spaceAt (now (page .entry)) (innerAt (now (page .entry)) n))) ⌝ }
 {
     let b = inner(page, n);
     let m = components(page, b);
     let h = two(page, n, 6);
     put3(words, at, 2, word_of(m), word_of(h));
     if m == 0 {
-        return;
+        return at + 3;
     }
-    put_table(page, n, b, m, m * (h + 1), words, at + 3);
+    let count = m * (h + 1);
+    put_table(page, n, b, m, count, words, at + 3);
+    at + 3 + (count as usize)
 }
 
-// Step 3 of the Separation block n.
-pub fn put_tint(page: &[u8], n: u32, words: &mut [i32], at: usize)
+// Step 3 of the Separation block n, from `at` on; the place after it.
+pub fn put_tint(page: &[u8], n: u32, words: &mut [i32], at: usize) -> usize
     requires { ⌜ at + length (tintWords (now page) n (spaceAt (now page) (innerAt (now page) n))) ≤ length (now words) ⌝ }
-    ensures { λ _. ⌜ now (words .exit) ≡ sets (now (words .entry)) at (tintWords (now (page .entry)) n (spaceAt (now (page .entry)) (innerAt (now (page .entry)) n))) ⌝ }
+    ensures stores { λ _. ⌜ now (words .exit) ≡ sets (now (words .entry)) at (tintWords (now (page .entry)) n (spaceAt (now (page .entry)) (innerAt (now (page .entry)) n))) ⌝ }
+    ensures next { λ r. ⌜ r ≡ at + length (tintWords (now (page .entry)) n (spaceAt (now (page .entry)) (innerAt (now (page .entry)) n))) ⌝ }
 {
     let m = components(page, inner(page, n));
     let e = word_of(byte(page, n, 6));
     put3(words, at, 3, e, word_of(m));
     put_numbers(page, n, 136, m, words, at + 3);
     put_numbers(page, n, 152, m, words, at + 3 + (m as usize));
+    at + 3 + 2 * (m as usize)
 }

@@ -7,9 +7,6 @@ ghost use Rattle.space.specs.Pages.{spaceAt};
 ghost use Rattle.recipe.specs.Recipes.{stepsOf};
 ghost use Rattle.recipe.specs.Writes.{meaning, replied, left};
 use crate::Written;
-use crate::lengths::row_length;
-use crate::lengths::steps_length;
-use crate::lengths::tint_length;
 use crate::parts::put_ends;
 use crate::parts::put_row;
 use crate::parts::put_tint;
@@ -25,23 +22,13 @@ fn put_steps(page: &[u8], n: u32, words: &mut [i32], at: usize)
 {
     let k = kind(page, n);
     if k == 4 {
-        put_row(page, n, words, at);
-        put_steps(
-            page,
-            inner(page, n),
-            words,
-            at + (row_length(page, n) as usize),
-        );
+        let next = put_row(page, n, words, at);
+        put_steps(page, inner(page, n), words, next);
         return;
     }
     if k == 5 {
-        put_tint(page, n, words, at);
-        put_steps(
-            page,
-            inner(page, n),
-            words,
-            at + (tint_length(page, n) as usize),
-        );
+        let next = put_tint(page, n, words, at);
+        put_steps(page, inner(page, n), words, next);
         return;
     }
     put_ends(page, n, words, at);
@@ -60,7 +47,7 @@ pub fn write_space(page: &[u8], n: u32, words: &mut [i32]) -> Written
             block: 0,
         };
     }
-    let size = 1 + steps_length(page, n);
+    let size = space::words(page, n);
     if words.len() < (size as usize) {
         return Written::Refused {
             number: 10,

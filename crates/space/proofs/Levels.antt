@@ -12,8 +12,9 @@ use Rattle.cie.specs.declared.LabClosing.{LabClosing}
 use lib.IntN.{ℤ}
 use Rattle.fixed.specs.Bytes.{grayCode, rgbCode, cmykCode}
 use Rattle.space.specs.Numbers.{kindAt, rankAt, innerAt}
-use Rattle.space.specs.Spaces.{Space, none, gray, rgb, cmyk, calGray, calRgb, lab}
+use Rattle.space.specs.Spaces.{Space, none, gray, rgb, cmyk, calGray, calRgb, lab, separation, indexed}
 use Rattle.space.specs.Pages.{plainBy, plainAt, tintedBy, tintedAt, spaceBy, spaceAt, indexedOver, separationOver}
+use Rattle.space.specs.Wholes.{rankOf}
 use Rattle.space.proofs.Ranks.{rank-indexed, rank-separation, no-indexed, no-separation, inner-falls}
 
 module _ (page : List ℕ) (n : ℕ) where
@@ -63,3 +64,33 @@ module _ (page : List ℕ) (n : ℕ) (P : Space → Type 0) (a : P none) (b : P 
 
   pub plain-at : (kindAt page n ≡ 4 → ⊥) → (kindAt page n ≡ 5 → ⊥) → P (spaceAt page n)
   plain-at h i = subst P (sym (at-plain page n h i)) (plain-ind (kindAt page n))
+
+-- nothing is within a plain space
+pub plain-rank : (page : List ℕ) (n k : ℕ) → rankOf (plainBy k page n) < 1
+plain-rank page n =
+    plain-ind page n (λ (s : Space). rankOf s < 1) (omega arith) (omega arith) (omega arith) (omega arith)
+    (λ _. omega arith) (λ _. omega arith) (λ _ _ _ _ _. omega arith)
+
+-- what a plain space hands on to a Separation, and either to an Indexed, holds of the space at every number
+module _ (page : List ℕ) (P : Space → Type 0) (plain : (n k : ℕ) → P (plainBy k page n))
+    (separated : (n : ℕ) (s : Space) → rankOf s < 1 → P s → P (separationOver page n s)) where
+  pub tinted-ind : (n k : ℕ) → P (tintedBy k page n)
+  unfolding tintedBy
+  tinted-ind n k = cond-ind P (eqb k 5) (λ _. separated n _ (plain-rank page _ _) (plain _ _)) (λ _. plain n k)
+
+  pub space-ind : ((n : ℕ) (s : Space) → P s → P (indexedOver page n s)) → (n : ℕ) → P (spaceAt page n)
+  unfolding spaceBy
+  space-ind indexes n = cond-ind P (eqb (kindAt page n) 4) (λ _. indexes n _ (tinted-ind _ _)) (λ _. tinted-ind n (kindAt page n))
+
+-- a space is plain, a Separation or an Indexed
+pub by-rank : (P : Space → Type 0) → ((s : Space) → rankOf s < 1 → P s) → ((e : ℕ) (c0 c1 : List ℤ) (s : Space) → P (separation e c0 c1 s))
+    → ((h : ℕ) (t : List ℤ) (s : Space) → P (indexed h t s)) → (s : Space) → P s
+by-rank P a b c none = a none (omega arith)
+by-rank P a b c gray = a gray (omega arith)
+by-rank P a b c rgb = a rgb (omega arith)
+by-rank P a b c cmyk = a cmyk (omega arith)
+by-rank P a b c (calGray k) = a (calGray k) (omega arith)
+by-rank P a b c (calRgb k) = a (calRgb k) (omega arith)
+by-rank P a b c (lab k al ah bl bh) = a (lab k al ah bl bh) (omega arith)
+by-rank P a b c (separation e c0 c1 s) = b e c0 c1 s
+by-rank P a b c (indexed h t s) = c h t s

@@ -74,9 +74,9 @@ closingOf (separation e c0 c1 s) = Nothing
 closingOf (indexed h t s) = Nothing
 
 -- the words of its recipe: Gray 6, RGB 14, CMYK 18, CalGray 9, CalRGB 26, Lab 16; Indexed adds 3 + m (hival + 1), Separation 3 + 2m, m being the
--- count of the space within
+-- count of the space within. For `none` no recipe is written: it would be its count alone
 abbrev pub wordsOf : Space → ℕ
-wordsOf none = 0
+wordsOf none = 1
 wordsOf gray = 6
 wordsOf rgb = 14
 wordsOf cmyk = 18

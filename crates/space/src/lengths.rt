@@ -9,7 +9,7 @@ use crate::numbers::kind;
 use crate::ranges::components;
 use fixed::two;
 
-// The words of a plain space's recipe, 0 for all others.
+// The words of a plain space's recipe; 1, the count alone, for all others.
 fn plain_words(page: &[u8], n: u32) -> u32
     ensures is { λ r. ⌜ r ≡ wordsOf (plainAt (now (page .entry)) n) ⌝ }
     ensures small { λ r. ⌜ r ≤ 26 ⌝ }
@@ -21,7 +21,7 @@ fn plain_words(page: &[u8], n: u32) -> u32
         1 => 9,
         2 => 26,
         3 => 16,
-        _ => 0,
+        _ => 1,
     }
 }
 

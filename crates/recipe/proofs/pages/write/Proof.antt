@@ -1,5 +1,5 @@
 -- What validation finds is given, and only on an accepted page is the recipe written.
-use mathlib.Core.Path.{_≡_, sym, ap, _∙_}
+use mathlib.Core.Path.{sym, ap, _∙_}
 use denote.Ref.{now}
 use Rattle.page.specs.Outcomes.{Outcome, meaning as judged}
 use Rattle.space.specs.Pages.{spaceAt}

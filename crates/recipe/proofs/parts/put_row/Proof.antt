@@ -1,4 +1,4 @@
--- 2 m h, and the entries of the table.
+-- 2 m h, and the entries of the table; the place after them.
 use mathlib.Core.Path.{_≡_}
 use native.Mathlib.Omega.{arith}
 use Prim.Native.Nat.{_≤_}
@@ -35,6 +35,9 @@ put3-requires c κs =
     let r = row-fits _ _ _ _ (components .ensures .0) (inner .ensures .0) _ (args .words .now) _ (two .ensures .0) (pre .1) in
     omega arith
 
+add-result : tie.Need-add-result
+add-result c = search needs
+
 same-length : tie.Need-same-length
 same-length c = search needs
 
@@ -49,17 +52,17 @@ returns c =
     row-none _ _ _ _ (components .ensures .0) (inner .ensures .0) _ _ _ (two .ensures .0) _ _ _
     (heard _ (word-of .ok) (word-of .ensures)) (heard _ (word-of2 .ok) (word-of2 .ensures)) (put3 .ensures) (c .if1 .taken)
 
-add-put-table : tie.Need-add-put-table
-add-put-table c = search needs
+add-count : tie.Need-add-count
+add-count c = search needs
 
-mul-put-table : tie.Need-mul-put-table
-mul-put-table c =
+mul-count : tie.Need-mul-count
+mul-count c =
     let components = c .before .before .before .before .before .before .before .components in
     let two = c .before .before .before .before .before .before .two in
     omega (arith, few-entries (components .result) (two .result) (components .ensures .1) (two .ensures .1))
 
-add-put-table-2 : tie.Need-add-put-table-2
-add-put-table-2 c = search needs
+add-put-table : tie.Need-add-put-table
+add-put-table c = search needs
 
 put-table-requires : tie.Need-put-table-requires
 put-table-requires c κs =
@@ -79,6 +82,21 @@ put-table-requires c κs =
       some,
       components .ensures .0,
     )
+
+add-result-2 : tie.Need-add-result-2
+add-result-2 c = search needs
+
+cast-result : tie.Need-cast-result
+cast-result c =
+    let components = c .before .before .before .before .before .before .before .before .before .before .components in
+    let two = c .before .before .before .before .before .before .before .before .before .two in
+    omega (arith, few-entries (components .result) (two .result) (components .ensures .1) (two .ensures .1))
+
+add-result-3 : tie.Need-add-result-3
+add-result-3 c =
+    let components = c .before .before .before .before .before .before .before .before .before .before .components in
+    let two = c .before .before .before .before .before .before .before .before .before .two in
+    omega (arith, few-entries (components .result) (two .result) (components .ensures .1) (two .ensures .1))
 
 same-length-2 : tie.Need-same-length-2
 same-length-2 c = search needs
@@ -105,11 +123,15 @@ put-row-spec =
     word-of-requires
     word-of-requires-2
     put3-requires
+    add-result
     same-length
     returns
+    add-count
+    mul-count
     add-put-table
-    mul-put-table
-    add-put-table-2
     put-table-requires
+    add-result-2
+    cast-result
+    add-result-3
     same-length-2
     returns-2)

@@ -1,4 +1,4 @@
--- 3 e m, the C0s and the C1s.
+-- 3 e m, the C0s and the C1s; the place after them.
 use mathlib.Core.Path.{_≡_, _∙_, ap}
 use native.Mathlib.Omega.{arith}
 use lib.IntN.{pos}
@@ -68,6 +68,18 @@ put-numbers-requires-2 c κs =
     let e : length (put3 .last .0) ≡ length (args .words .now) = put3 .kept .0 in
     (components .ensures .1, omega arith, omega (arith, put-numbers .kept .1 .1 .1 .1 .0))
 
+add-result : tie.Need-add-result
+add-result c = search needs
+
+cast-result : tie.Need-cast-result
+cast-result c = search needs
+
+mul-result : tie.Need-mul-result
+mul-result c = search needs
+
+add-result-2 : tie.Need-add-result-2
+add-result-2 c = search needs
+
 same-length : tie.Need-same-length
 same-length c = search needs
 
@@ -101,5 +113,9 @@ put-tint-spec =
     cast-put-numbers
     add-put-numbers-3
     put-numbers-requires-2
+    add-result
+    cast-result
+    mul-result
+    add-result-2
     same-length
     returns)

@@ -1,9 +1,10 @@
 -- The steps as a run of stores: a head, and after it the steps of the space within, whose rank is lower; or a plain space's.
-use mathlib.Core.Path.{_∙_, ap, sym}
+use mathlib.Core.Path.{_∙_, refl, ap, sym}
 use lib.Seq.{sets}
 use Rattle.space.specs.Numbers.{rankAt}
 use Rattle.space.proofs.Ranks.{falls-indexed, falls-separation, block-indexed}
-use Rattle.recipe.proofs.Steps.{steps-plain, indexed-head, indexed-room, indexed-set, separation-head, separation-room, separation-set, plain-room}
+use Rattle.recipe.specs.Parts.{rowWords, tintWords}
+use Rattle.recipe.proofs.Steps.{steps-indexed, steps-separation, steps-plain, head-room, steps-room, steps-set, plain-room}
 use borrow.Author.Needs.{needs}
 use Prim.Native.Nat.{ℕ, _<_}
 use borrow.Fn.Kinds.{In}
@@ -11,8 +12,6 @@ use borrow.Fn.PlainCycle.{Measures, is, falls, and}
 use Rattle.recipe.proofs.writing.put_steps.Reads as put-steps
 use Rattle.recipe.proofs.writing.put_steps.Kinds as put-steps-kinds
 use Rattle.recipe.proofs.writing.+put_steps.Lts-put_steps as put-steps-lts
-use Rattle.recipe.proofs.lengths.row_length.Reads as row-length-reads
-use Rattle.recipe.proofs.lengths.tint_length.Reads as tint-length-reads
 use Rattle.recipe.proofs.parts.put_ends.Reads as put-ends-reads
 use Rattle.recipe.proofs.parts.put_row.Reads as put-row-reads
 use Rattle.recipe.proofs.parts.put_tint.Reads as put-tint-reads
@@ -33,7 +32,7 @@ put-steps-below t =
 
 -- what each callee asks and tells, itself below t
 abbrev claims : ℕ → put-steps-lts.Claims
-claims t = (kind-reads.Asked, kind-reads.Learnt, put-row-reads.Asked, put-row-reads.Learnt, inner-reads.Asked, inner-reads.Learnt, row-length-reads.Asked, row-length-reads.Learnt, put-steps-below t, put-steps.Post, put-tint-reads.Asked, put-tint-reads.Learnt, tint-length-reads.Asked, tint-length-reads.Learnt, put-ends-reads.Asked, put-ends-reads.Learnt)
+claims t = (kind-reads.Asked, kind-reads.Learnt, put-row-reads.Asked, put-row-reads.Learnt, inner-reads.Asked, inner-reads.Learnt, put-steps-below t, put-steps.Post, put-tint-reads.Asked, put-tint-reads.Learnt, put-ends-reads.Asked, put-ends-reads.Learnt)
 
 put-steps-kind-requires : (t : ℕ) → put-steps-lts.Need-kind-requires (claims t) (put-steps-at t) put-steps.Post
 put-steps-kind-requires t c κs = search needs
@@ -45,31 +44,22 @@ put-steps-put-row-requires t c κs =
     let args = c .before .before .before .before .args in
     let pre = c .before .before .before .before .pre in
     let k = sym (kind .ensures) ∙ if1 .taken in
-    (block-indexed _ _ k, indexed-head _ _ _ (args .words .now) (pre .1) k)
+    (block-indexed _ _ k, head-room _ _ _ _ _ (rowWords _ _ _) (steps-indexed _ _ k) refl refl (args .words .now) (pre .1))
 
 put-steps-inner-requires : (t : ℕ) → put-steps-lts.Need-inner-requires (claims t) (put-steps-at t) put-steps.Post
 put-steps-inner-requires t c κs = search needs
 
-put-steps-row-length-requires : (t : ℕ) → put-steps-lts.Need-row-length-requires (claims t) (put-steps-at t) put-steps.Post
-put-steps-row-length-requires t c κs = search needs
-
-put-steps-cast-put-steps : (t : ℕ) → put-steps-lts.Need-cast-put-steps (claims t) (put-steps-at t) put-steps.Post
-put-steps-cast-put-steps t c = search needs
-
-put-steps-add-put-steps : (t : ℕ) → put-steps-lts.Need-add-put-steps (claims t) (put-steps-at t) put-steps.Post
-put-steps-add-put-steps t c = search needs
-
 put-steps-put-steps-requires : (t : ℕ) → put-steps-lts.Need-put-steps-requires (claims t) (put-steps-at t) put-steps.Post
 put-steps-put-steps-requires t c κs =
-    let kind = c .before .before .before .before .before .before .before .kind in
-    let if1 = c .before .before .before .before .before .before .if1 in
-    let inner = c .before .before .inner in
-    let pre = c .before .before .before .before .before .before .before .before .before .pre in
-    let args = c .before .before .before .before .before .before .before .before .before .args in
-    let put-row = c .before .before .before .before .put-row in
+    let kind = c .before .before .before .before .before .before .kind in
+    let if1 = c .before .before .before .before .before .if1 in
+    let inner = c .before .inner in
+    let pre = c .before .before .before .before .before .before .before .before .pre in
+    let put-row = c .before .before .before .put-row in
+    let args = c .before .before .before .before .before .before .before .before .args in
     let k = sym (kind .ensures) ∙ if1 .taken in (
       falls-indexed _ _ _ _ k (inner .ensures .0) (pre .0),
-      indexed-room _ _ _ _ (inner .ensures .0) k (c .row-length .ensures .0) _ (args .words .now) (put-row .last .1 .1 .0) (pre .1) (put-row .kept .1 .1 .0),
+      steps-room _ _ _ _ _ (rowWords _ _ _) (steps-indexed _ _ k) (inner .ensures .0) (put-row .ensures .1) (args .words .now) (put-row .last .1 .1 .0) (pre .1) (put-row .kept .1 .1 .0),
     )
 
 put-steps-same-length : (t : ℕ) → put-steps-lts.Need-same-length (claims t) (put-steps-at t) put-steps.Post
@@ -77,45 +67,37 @@ put-steps-same-length t c = search needs
 
 put-steps-returns : (t : ℕ) → put-steps-lts.Need-returns (claims t) (put-steps-at t) put-steps.Post
 put-steps-returns t c =
-    let inner = c .before .before .before .before .inner in
-    let kind = c .before .before .before .before .before .before .before .before .before .kind in
-    let if1 = c .before .before .before .before .before .before .before .before .if1 in
-    let row-length = c .before .before .row-length in
-    let put-row = c .before .before .before .before .before .before .put-row in
+    let kind = c .before .before .before .before .before .before .before .before .kind in
+    let if1 = c .before .before .before .before .before .before .before .if1 in
+    let inner = c .before .before .before .inner in
+    let put-row = c .before .before .before .before .before .put-row in
     let put-steps = c .before .put-steps in
-    indexed-set _ _ _ _ (inner .ensures .0) (sym (kind .ensures) ∙ if1 .taken) (row-length .ensures .0) _ _ _ _ (put-row .ensures) (put-steps .ensures)
+    let k = sym (kind .ensures) ∙ if1 .taken in
+    steps-set _ _ _ _ _ (rowWords _ _ _) (steps-indexed _ _ k) (inner .ensures .0) (put-row .ensures .1) _ _ _ (put-row .ensures .0) (put-steps .ensures)
 
 put-steps-put-tint-requires : (t : ℕ) → put-steps-lts.Need-put-tint-requires (claims t) (put-steps-at t) put-steps.Post
 put-steps-put-tint-requires t c κs =
-    let args = c .before .before .before .before .before .args in
-    let pre = c .before .before .before .before .before .pre in
     let kind = c .before .before .before .kind in
     let if2 = c .before .if2 in
-    separation-head _ _ _ (args .words .now) (pre .1) (sym (kind .ensures) ∙ if2 .taken)
+    let args = c .before .before .before .before .before .args in
+    let pre = c .before .before .before .before .before .pre in
+    let k = sym (kind .ensures) ∙ if2 .taken in
+    head-room _ _ _ _ _ (tintWords _ _ _) (steps-separation _ _ k) refl refl (args .words .now) (pre .1)
 
 put-steps-inner-requires-2 : (t : ℕ) → put-steps-lts.Need-inner-requires-2 (claims t) (put-steps-at t) put-steps.Post
 put-steps-inner-requires-2 t c κs = search needs
 
-put-steps-tint-length-requires : (t : ℕ) → put-steps-lts.Need-tint-length-requires (claims t) (put-steps-at t) put-steps.Post
-put-steps-tint-length-requires t c κs = search needs
-
-put-steps-cast-put-steps-2 : (t : ℕ) → put-steps-lts.Need-cast-put-steps-2 (claims t) (put-steps-at t) put-steps.Post
-put-steps-cast-put-steps-2 t c = search needs
-
-put-steps-add-put-steps-2 : (t : ℕ) → put-steps-lts.Need-add-put-steps-2 (claims t) (put-steps-at t) put-steps.Post
-put-steps-add-put-steps-2 t c = search needs
-
 put-steps-put-steps-requires-2 : (t : ℕ) → put-steps-lts.Need-put-steps-requires-2 (claims t) (put-steps-at t) put-steps.Post
 put-steps-put-steps-requires-2 t c κs =
-    let kind = c .before .before .before .before .before .before .before .before .kind in
-    let if2 = c .before .before .before .before .before .before .if2 in
-    let inner2 = c .before .before .inner2 in
-    let pre = c .before .before .before .before .before .before .before .before .before .before .pre in
-    let args = c .before .before .before .before .before .before .before .before .before .before .args in
-    let put-tint = c .before .before .before .before .put-tint in
+    let kind = c .before .before .before .before .before .before .before .kind in
+    let if2 = c .before .before .before .before .before .if2 in
+    let inner2 = c .before .inner2 in
+    let pre = c .before .before .before .before .before .before .before .before .before .pre in
+    let put-tint = c .before .before .before .put-tint in
+    let args = c .before .before .before .before .before .before .before .before .before .args in
     let k = sym (kind .ensures) ∙ if2 .taken in (
       falls-separation _ _ _ _ k (inner2 .ensures .0) (pre .0),
-      separation-room _ _ _ _ (inner2 .ensures .0) k (c .tint-length .ensures .0) _ (args .words .now) (put-tint .last .1 .1 .0) (pre .1) (put-tint .kept .1 .1 .0),
+      steps-room _ _ _ _ _ (tintWords _ _ _) (steps-separation _ _ k) (inner2 .ensures .0) (put-tint .ensures .1) (args .words .now) (put-tint .last .1 .1 .0) (pre .1) (put-tint .kept .1 .1 .0),
     )
 
 put-steps-same-length-2 : (t : ℕ) → put-steps-lts.Need-same-length-2 (claims t) (put-steps-at t) put-steps.Post
@@ -123,13 +105,13 @@ put-steps-same-length-2 t c = search needs
 
 put-steps-returns-2 : (t : ℕ) → put-steps-lts.Need-returns-2 (claims t) (put-steps-at t) put-steps.Post
 put-steps-returns-2 t c =
-    let inner2 = c .before .before .before .before .inner2 in
-    let kind = c .before .before .before .before .before .before .before .before .before .before .kind in
-    let if2 = c .before .before .before .before .before .before .before .before .if2 in
-    let tint-length = c .before .before .tint-length in
-    let put-tint = c .before .before .before .before .before .before .put-tint in
+    let kind = c .before .before .before .before .before .before .before .before .before .kind in
+    let if2 = c .before .before .before .before .before .before .before .if2 in
+    let inner2 = c .before .before .before .inner2 in
+    let put-tint = c .before .before .before .before .before .put-tint in
     let put-steps2 = c .before .put-steps2 in
-    separation-set _ _ _ _ (inner2 .ensures .0) (sym (kind .ensures) ∙ if2 .taken) (tint-length .ensures .0) _ _ _ _ (put-tint .ensures) (put-steps2 .ensures)
+    let k = sym (kind .ensures) ∙ if2 .taken in
+    steps-set _ _ _ _ _ (tintWords _ _ _) (steps-separation _ _ k) (inner2 .ensures .0) (put-tint .ensures .1) _ _ _ (put-tint .ensures .0) (put-steps2 .ensures)
 
 put-steps-put-ends-requires : (t : ℕ) → put-steps-lts.Need-put-ends-requires (claims t) (put-steps-at t) put-steps.Post
 put-steps-put-ends-requires t c κs =
@@ -160,17 +142,11 @@ pub +put-steps-spec : {M : Type 1} → statement M
     (put-steps-kind-requires t)
     (put-steps-put-row-requires t)
     (put-steps-inner-requires t)
-    (put-steps-row-length-requires t)
-    (put-steps-cast-put-steps t)
-    (put-steps-add-put-steps t)
     (put-steps-put-steps-requires t)
     (put-steps-same-length t)
     (put-steps-returns t)
     (put-steps-put-tint-requires t)
     (put-steps-inner-requires-2 t)
-    (put-steps-tint-length-requires t)
-    (put-steps-cast-put-steps-2 t)
-    (put-steps-add-put-steps-2 t)
     (put-steps-put-steps-requires-2 t)
     (put-steps-same-length-2 t)
     (put-steps-returns-2 t)
