@@ -20,7 +20,8 @@ use Rattle.space.specs.Spaces.{Space, none, gray, rgb, cmyk, calGray, calRgb, l
 use Rattle.space.specs.Pages.{spaceAt}
 use Rattle.space.specs.Wholes.{Whole}
 use Rattle.colour.specs.Colours.{valued, answered}
-use Rattle.colour.specs.Evaluating.{onAccepted, evaluated}
+use Rattle.colour.specs.Evaluating.{evaluated}
+use Rattle.colour.proofs.Replies.{page-accepted}
 use Rattle.recipe.specs.Recipes.{recipeOf}
 use Rattle.recipe.specs.Writes.{wrote, refusal as unwritten, replied, left}
 use Rattle.recipe.specs.Writing.{onAccepted as onWritten, whereAccepted, writeReply, writeLeft}
@@ -33,9 +34,7 @@ use Rattle.agreement.proofs.Spaces.{count-low, recipe-replies}
 -- replies what the page replies.
 pub page-replies : (page : List ℕ) (n : ℕ) → validated page ≡ accepted → 1 ≤ countOf (spaceAt page n)
     → (cs : List ℤ) → ran (recipeOf (spaceAt page n)) cs ≡ evaluated page n cs
-unfolding evaluated
-page-replies page n ok some cs =
-    recipe-replies (spaceAt page n) (whole-at page n ok some) cs ∙ ap (λ (o : Outcome). onAccepted o (answered (spaceAt page n) cs)) (sym ok)
+page-replies page n ok some cs = recipe-replies (spaceAt page n) (whole-at page n ok some) cs ∙ page-accepted page n cs (sym ok)
 
 -- no such recipe is longer than 1,045 words
 pub page-short : (page : List ℕ) (n : ℕ) → validated page ≡ accepted → 1 ≤ countOf (spaceAt page n) → length (recipeOf (spaceAt page n)) ≤ longest

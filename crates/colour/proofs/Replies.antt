@@ -9,11 +9,14 @@ use Rattle.fixed.specs.Values.{places, given}
 use Rattle.cie.specs.declared.Closing.{Closing}
 use Rattle.cie.specs.Answers.{refusal}
 use Rattle.cie.specs.Closings.{closed}
+use Rattle.page.specs.Outcomes.{accepted, refused}
+use Rattle.page.specs.Validation.{validated}
 use Rattle.space.specs.Numbers.{kindAt, innerAt}
 use Rattle.space.specs.Spaces.{Space, countOf, closingOf}
 use Rattle.space.specs.Pages.{spaceAt, rowAt, tintAt}
 use Rattle.space.proofs.Levels.{at-indexed, at-separation, plain-at}
 use Rattle.colour.specs.Colours.{limitedTo, settled, valued, answered}
+use Rattle.colour.specs.Evaluating.{evaluated}
 
 -- a plain space's values are settled
 pub valued-plain : (page : List ℕ) (n : ℕ) (v : List ℤ) → (kindAt page n ≡ 4 → ⊥) → (kindAt page n ≡ 5 → ⊥) → settled (spaceAt page n) v ≡ valued (spaceAt page n) v
@@ -57,3 +60,13 @@ module _ (s : Space) (cs : List ℤ) (m : ℕ) (e : m ≡ countOf s) where
     pub answered-as : (u : List ℤ) → length cs ≡ m → u ≡ given places cs → valued s u ≡ answered s cs
     unfolding answered
     answered-as u l g = ap (valued s) g ∙ simp (ne-eqb (countOf s) 0 (λ h. z (e ∙ h)), eq-eqb (length cs) (countOf s) (l ∙ e))
+
+-- on a page that is accepted, and on one that is refused
+module _ (page : List ℕ) (n : ℕ) (cs : List ℤ) where
+  pub page-accepted : accepted ≡ validated page → answered (spaceAt page n) cs ≡ evaluated page n cs
+  unfolding evaluated
+  page-accepted e = rw (← e)
+
+  pub page-refused : (number block : ℕ) → refused number block ≡ validated page → refusal number block ≡ evaluated page n cs
+  unfolding evaluated
+  page-refused number block e = rw (← e)

@@ -8,11 +8,11 @@ use native.Mathlib.Omega.{arith}
 use lib.IntN.{ℤ, pos, natAbs}
 use lib.ListN.{set}
 use Rattle.fixed.specs.Numbers.{limited, roundIndex, tintPower, tintValue}
-use Rattle.fixed.specs.Values.{value, filled, limitStep, indexOf, rowStep, tintOf, tintStep}
+use Rattle.fixed.specs.Values.{places, value, filled, limitStep, indexOf, rowStep, tintOf, tintStep}
 use Rattle.fixed.proofs.Listed.{listed-value, filled-same, index-is, index-le, row-room}
 use Rattle.space.specs.Numbers.{hivalAt, exponentAt}
 use Rattle.space.specs.Spaces.{Space, countOf, lowOf, highOf}
-use Rattle.space.specs.Pages.{spaceAt, entryOf, tableOf, rowAt, c0At, c1At, c0Of, c1Of, tintAt}
+use Rattle.space.specs.Pages.{spaceAt, entries, entryOf, tableOf, rowAt, c0At, c1At, c0Of, c1Of, tintAt}
 use Rattle.colour.specs.Colours.{limitedTo}
 
 -- one more value limited
@@ -20,11 +20,11 @@ pub limited-turn : (s : Space) (k : ℕ) (v : List ℤ) {u : List ℤ} {x : ℤ}
 unfolding limitedTo limitStep
 limited-turn s k v e h = rw (h, e, add-one)
 
--- a row of at most 4 components and of index at most 65535 ends within the most entries that a table has
-pub few-rows : (i m h : ℕ) → i ≤ h → m ≤ 4 → h ≤ 65535 → i * m + m ≤ 262144
+-- a row ends within the most entries that a table has
+pub few-rows : (i m h : ℕ) → i ≤ h → m ≤ places → h ≤ 65535 → i * m + m ≤ entries
 few-rows i m h le lm lh =
     let k : i ≤ 65535 = omega arith in
-    let q : i * m ≤ 65535 * 4 = mul-le-mul k lm in
+    let q : i * m ≤ 65535 * places = mul-le-mul k lm in
     omega arith
 
 -- a row of the page is the row of the table

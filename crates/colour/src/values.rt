@@ -6,7 +6,7 @@ ghost use Rattle.fixed.specs.Numbers.{tintValue};
 ghost use Rattle.fixed.specs.Values.{places, filled};
 ghost use Rattle.space.specs.Numbers.{innerAt};
 ghost use Rattle.space.specs.Spaces.{countOf};
-ghost use Rattle.space.specs.Pages.{spaceAt, entryOf, rowAt, tintAt, c0At, c1At};
+ghost use Rattle.space.specs.Pages.{spaceAt, entries, entryOf, rowAt, tintAt, c0At, c1At};
 ghost use Rattle.colour.specs.Colours.{limitedTo};
 use fixed::VALUES;
 use fixed::byte;
@@ -41,7 +41,7 @@ pub fn limit_all(page: &[u8], n: u32, m: u32, v: [i32; VALUES]) -> [i32; VALUES]
 
 // The m entries from `at` on of the table of the Indexed block n, over the base b.
 fn fill_row(page: &[u8], n: u32, b: u32, m: u32, at: u32, v: [i32; VALUES]) -> [i32; VALUES]
-    requires { ⌜ (n < blocks) × (at + m ≤ 262144) × (m ≤ places) × (m ≡ countOf (spaceAt (now page) b)) ⌝ }
+    requires { ⌜ (n < blocks) × (at + m ≤ entries) × (m ≤ places) × (m ≡ countOf (spaceAt (now page) b)) ⌝ }
     ensures { λ r. ⌜ r ≡ filled (λ k. entryOf (now (page .entry)) n (spaceAt (now (page .entry)) b) (at + k)) m v ⌝ }
 {
     let mut u = v;

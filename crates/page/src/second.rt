@@ -3,9 +3,11 @@ ghost use mathlib.Core.Path.{_≡_};
 ghost use Prim.Native.Nat.{_-_, _<_, _≤_};
 ghost use Rattle.fixed.specs.Bytes.{blocks, blockAt};
 ghost use Rattle.fixed.specs.Loops.{firstFrom};
+ghost use Rattle.fixed.specs.Values.{places};
 ghost use Rattle.page.specs.Outcomes.{accepted, refused, meaning};
 ghost use Rattle.page.specs.Validation.{alternateKind, baseKind, permitted, paletteSize, runLength, palettes, runHeld, unusedZero, owedAfter, held, faultOwed, faultTwo};
 ghost use Rattle.record.specs.Reading.{bodyAt};
+ghost use Rattle.space.specs.Pages.{entries};
 use crate::Verdict;
 use fixed::is_device;
 use fixed::two;
@@ -48,14 +50,14 @@ fn permits(page: &[u8], y: Body) -> bool
 // The bytes of the palette of the Indexed block i.
 fn palette_size(page: &[u8], i: u32) -> u32
     ensures is { λ r. ⌜ r ≡ paletteSize (now (page .entry)) i ⌝ }
-    ensures small { λ r. ⌜ r ≤ 262144 ⌝ }
+    ensures small { λ r. ⌜ r ≤ entries ⌝ }
 {
     components(page, two(page, i, 4)) * (two(page, i, 6) + 1)
 }
 
 // How few blocks hold so many bytes.
 fn run_length(size: u32) -> u32
-    requires { ⌜ size ≤ 262144 ⌝ }
+    requires { ⌜ size ≤ entries ⌝ }
     ensures { λ r. ⌜ r ≡ runLength size ⌝ }
 {
     (size + 503) / 504
@@ -84,7 +86,7 @@ fn all_palettes(page: &[u8], from: u32, to: u32) -> bool
 
 // Whether the palette of so many bytes stands straight after block i, with nothing after it in its last block.
 fn run_held(page: &[u8], i: u32, size: u32) -> bool
-    requires { ⌜ (i < blocks) × (size ≤ 262144) ⌝ }
+    requires { ⌜ (i < blocks) × (size ≤ entries) ⌝ }
     ensures { λ r. ⌜ r ≡ runHeld (now (page .entry)) i size ⌝ }
 {
     let n = run_length(size);
@@ -94,7 +96,7 @@ fn run_held(page: &[u8], i: u32, size: u32) -> bool
 
 // Whether C0 and C1 of the Separation block i have nothing past m entries.
 fn unused_zero(page: &[u8], i: u32, m: u32) -> bool
-    requires { ⌜ m ≤ 4 ⌝ }
+    requires { ⌜ m ≤ places ⌝ }
     ensures { λ r. ⌜ r ≡ unusedZero (now (page .entry)) i m ⌝ }
 {
     zero_between(page, i, 136 + 4 * m, 152) & zero_between(page, i, 152 + 4 * m, 168)

@@ -1,5 +1,5 @@
--- What writing replies and leaves: refusal 8, then 10, then the recipe.
-use mathlib.Core.Path.{_≡_, sym, ap, _∙_}
+-- What writing replies and leaves: validation's refusal, then 8, then 10, then the recipe.
+use mathlib.Core.Path.{_≡_, refl, sym, ap, _∙_}
 use mathlib.Core.List.{List}
 use Prim.Native.Nat.{ℕ, _<_, _≤_}
 use native.Mathlib.Omega.{arith}
@@ -8,9 +8,13 @@ use lib.ListN.{length, set}
 use lib.Seq.{sets}
 use borrow.Author.Tests.{le-leb, lt-leb, eq-eqb, ne-eqb}
 use Rattle.fixed.proofs.Stores.{sets-front}
+use Rattle.page.specs.Outcomes.{accepted, refused}
+use Rattle.page.specs.Validation.{validated}
 use Rattle.space.specs.Spaces.{Space, countOf}
+use Rattle.space.specs.Pages.{spaceAt}
 use Rattle.recipe.specs.Recipes.{stepsOf, recipeOf}
-use Rattle.recipe.specs.Writes.{wrote, refusal, replied, left}
+use Rattle.recipe.specs.Writes.{Reply, wrote, refusal, replied, left}
+use Rattle.recipe.specs.Writing.{writeReply, writeLeft}
 
 -- m being the space's count, and r the words of its recipe
 module _ (s : Space) (d : List ℤ) (m : ℕ) (em : m ≡ countOf s) where
@@ -39,3 +43,14 @@ module _ (s : Space) (d : List ℤ) (m : ℕ) (em : m ≡ countOf s) where
           ap wrote er ∙ simp (z, k),
           f ∙ (sets-front (recipeOf s) d l ∙ simp (z, k)),
         )
+
+-- on a page that is accepted, and on one that is refused
+module _ (page : List ℕ) (n : ℕ) (d : List ℤ) where
+  pub page-accepted : (r : Reply) (y : List ℤ) → accepted ≡ validated page → (r ≡ replied (spaceAt page n) d) × (y ≡ left (spaceAt page n) d)
+      → (r ≡ writeReply page n d) × (y ≡ writeLeft page n d)
+  unfolding writeReply writeLeft
+  page-accepted r y e h = rw (← e) h
+
+  pub page-refused : (number block : ℕ) → refused number block ≡ validated page → (refusal number block ≡ writeReply page n d) × (d ≡ writeLeft page n d)
+  unfolding writeReply writeLeft
+  page-refused number block e = rw (← e) (refl, refl)

@@ -7,7 +7,7 @@ ghost use Rattle.fixed.specs.Bytes.{blocks, blockAt, numberAt};
 ghost use Rattle.fixed.specs.Values.{places, listed};
 ghost use Rattle.space.specs.Numbers.{innerAt};
 ghost use Rattle.space.specs.Spaces.{countOf};
-ghost use Rattle.space.specs.Pages.{spaceAt, entryOf};
+ghost use Rattle.space.specs.Pages.{spaceAt, entries, entryOf};
 ghost use Rattle.recipe.specs.Recipes.{limitsOf, endsOf};
 ghost use Rattle.recipe.specs.Parts.{rowWords, tintWords};
 use crate::closings::put_closing;
@@ -26,7 +26,7 @@ use space::low;
 
 // The first `count` entries of the table of the Indexed block n over the base b, of m components.
 fn put_table(page: &[u8], n: u32, b: u32, m: u32, count: u32, words: &mut [i32], at: usize)
-    requires { ⌜ (n < blocks) × (count ≤ 262144) × (at + count ≤ length (now words)) × (0 < m) × (m ≡ countOf (spaceAt (now page) b)) ⌝ }
+    requires { ⌜ (n < blocks) × (count ≤ entries) × (at + count ≤ length (now words)) × (0 < m) × (m ≡ countOf (spaceAt (now page) b)) ⌝ }
     ensures { λ _. ⌜ now (words .exit) ≡ sets (now (words .entry)) at (listed (entryOf (now (page .entry)) n (spaceAt (now (page .entry)) b)) count) ⌝ }
 {
     let mut j: u32 = 0;

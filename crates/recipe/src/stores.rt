@@ -29,8 +29,6 @@ pub fn put4(words: &mut [i32], at: usize, a: i32, b: i32, c: i32, d: i32)
     requires { ⌜ at + 4 ≤ length (now words) ⌝ }
     ensures { λ _. ⌜ now (words .exit) ≡ sets (now (words .entry)) at (a ∷ b ∷ c ∷ d ∷ []) ⌝ }
 {
-    words[at] = a;
-    words[at + 1] = b;
-    words[at + 2] = c;
+    put3(words, at, a, b, c);
     words[at + 3] = d;
 }

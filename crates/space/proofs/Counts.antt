@@ -9,7 +9,7 @@ use Rattle.fixed.specs.Values.{places}
 use Rattle.fixed.proofs.Listed.{listed-length}
 use Rattle.space.specs.Numbers.{kindAt, rankAt, innerAt, hivalAt}
 use Rattle.space.specs.Spaces.{Space, none, gray, rgb, cmyk, calGray, calRgb, lab, separation, indexed, countOf, wordsOf}
-use Rattle.space.specs.Pages.{spaceAt, tableOf, c0Of, c1Of}
+use Rattle.space.specs.Pages.{spaceAt, entries, tableOf, c0Of, c1Of}
 use Rattle.space.proofs.Ranks.{falls-indexed, falls-separation}
 use Rattle.space.proofs.Levels.{at-indexed, at-separation}
 
@@ -36,18 +36,17 @@ pub c1-length : (page : List ℕ) (n : ℕ) (s : Space) → length (c1Of page n 
 unfolding c1Of
 c1-length page n s = listed-length _ (countOf s)
 
--- the entries of a table of at most 4 components and 65536 rows
-pub few-entries : (m h : ℕ) → m ≤ 4 → h ≤ 65535 → m * (h + 1) ≤ 262144
+-- no table has more entries
+pub few-entries : (m h : ℕ) → m ≤ places → h ≤ 65535 → m * (h + 1) ≤ entries
 few-entries m h lm lh =
     let k : h + 1 ≤ 65536 = omega arith in
-    let q : m * (h + 1) ≤ 4 * 65536 = mul-le-mul lm k in
-    omega arith
+    mul-le-mul lm k
 
 -- the words of a recipe in the code's own terms: b the inner number, m its components, h hival, and r the words of the space within
-module _ (page : List ℕ) (n b m r : ℕ) (eb : b ≡ innerAt page n) (em : m ≡ countOf (spaceAt page b)) (lm : m ≤ 4) (er : r ≡ wordsOf (spaceAt page b))
-    (lr : r ≤ 300000 * (rankAt page b + 1)) where
+module _ (page : List ℕ) (n b m r : ℕ) (eb : b ≡ innerAt page n) (em : m ≡ countOf (spaceAt page b)) (lm : m ≤ places) (er : r ≡ wordsOf (spaceAt page b))
+    (lr : r ≤ (entries + 26) * (rankAt page b + 1)) where
   pub words-indexed : (h : ℕ) → kindAt page n ≡ 4 → h ≡ hivalAt page n → h ≤ 65535
-      → (3 + m * (h + 1) + r ≡ wordsOf (spaceAt page n)) × (3 + m * (h + 1) + r ≤ 300000 * (rankAt page n + 1))
+      → (3 + m * (h + 1) + r ≡ wordsOf (spaceAt page n)) × (3 + m * (h + 1) + r ≤ (entries + 26) * (rankAt page n + 1))
   words-indexed h k eh lh =
       let f = falls-indexed page n b (rankAt page n) k eb refl in
       let q = few-entries m h lm lh in (
@@ -55,7 +54,7 @@ module _ (page : List ℕ) (n b m r : ℕ) (eb : b ≡ innerAt page n) (em : m �
         omega arith,
       )
 
-  pub words-separation : kindAt page n ≡ 5 → (3 + 2 * m + r ≡ wordsOf (spaceAt page n)) × (3 + 2 * m + r ≤ 300000 * (rankAt page n + 1))
+  pub words-separation : kindAt page n ≡ 5 → (3 + 2 * m + r ≡ wordsOf (spaceAt page n)) × (3 + 2 * m + r ≤ (entries + 26) * (rankAt page n + 1))
   words-separation k =
       let f = falls-separation page n b (rankAt page n) k eb refl in (
         sym (ap wordsOf (at-separation page n k) ∙ rw (← eb, ← em, ← er)),

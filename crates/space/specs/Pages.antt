@@ -6,7 +6,7 @@ use lib.IntN.{ℤ}
 use lib.Dec.{eqb}
 use Rattle.fixed.specs.Numbers.{paletteValue}
 use Rattle.fixed.specs.Bytes.{grayCode, rgbCode, cmykCode, blockAt, numberAt}
-use Rattle.fixed.specs.Values.{listed, rowStep, tintStep}
+use Rattle.fixed.specs.Values.{places, listed, rowStep, tintStep}
 use Rattle.cie.specs.declared.GrayClosing.{GrayClosing}
 use Rattle.cie.specs.declared.RgbClosing.{RgbClosing}
 use Rattle.cie.specs.declared.LabClosing.{LabClosing}
@@ -52,6 +52,10 @@ plainBy kind page n =
 -- entry j of the table of the Indexed block n over the base s: a palette byte, over the range of its component
 unfoldable pub entryOf : List ℕ → ℕ → Space → ℕ → ℤ
 entryOf page n s j = paletteValue (paletteByte page n j) (lowOf s (j % countOf s)) (highOf s (j % countOf s))
+
+-- the most entries that a table has: hival is below 65536
+abbrev pub entries : ℕ
+entries = places * 65536
 
 -- the table: m (hival + 1) entries
 unfoldable pub tableOf : List ℕ → ℕ → Space → List ℤ

@@ -3,7 +3,7 @@ ghost use mathlib.Core.Path.{_≡_};
 ghost use Prim.Native.Nat.{_+_, _*_, _≤_};
 ghost use Rattle.space.specs.Numbers.{rankAt};
 ghost use Rattle.space.specs.Spaces.{wordsOf};
-ghost use Rattle.space.specs.Pages.{plainAt, spaceAt};
+ghost use Rattle.space.specs.Pages.{entries, plainAt, spaceAt};
 use crate::numbers::inner;
 use crate::numbers::kind;
 use crate::ranges::components;
@@ -28,7 +28,7 @@ fn plain_words(page: &[u8], n: u32) -> u32
 // The words of the recipe of the space at a number: those of the space within, and what an Indexed or a Separation adds.
 pub fn words(page: &[u8], n: u32) -> u32
     ensures is { λ r. ⌜ r ≡ wordsOf (spaceAt (now (page .entry)) n) ⌝ }
-    ensures small { λ r. ⌜ r ≤ 300000 * (rankAt (now (page .entry)) n + 1) ⌝ }
+    ensures small { λ r. ⌜ r ≤ (entries + 26) * (rankAt (now (page .entry)) n + 1) ⌝ }
 {
     let k = kind(page, n);
     if k == 4 {

@@ -4,6 +4,7 @@ ghost use Prim.Native.Nat.{_≤_};
 ghost use Rattle.space.specs.Spaces.{countOf, lowOf, highOf, closingOf};
 ghost use Rattle.space.specs.Pages.{grayNumbers, rgbNumbers, labNumbers, spaceAt};
 ghost use Rattle.fixed.specs.Bytes.{blockAt};
+ghost use Rattle.fixed.specs.Values.{places};
 use crate::numbers::kind;
 use cie::Closing;
 use cie::GrayClosing;
@@ -14,7 +15,7 @@ use fixed::number;
 // How many components it has, 0 where the number is no space's.
 pub fn components(page: &[u8], n: u32) -> u32
     ensures is { λ r. ⌜ r ≡ countOf (spaceAt (now (page .entry)) n) ⌝ }
-    ensures small { λ r. ⌜ r ≤ 4 ⌝ }
+    ensures small { λ r. ⌜ r ≤ places ⌝ }
 {
     match kind(page, n) {
         0xFF01 => 1,

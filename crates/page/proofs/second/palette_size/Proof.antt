@@ -1,4 +1,4 @@
--- `palette_size`: the base's components times the rows, 4 x 65536 at most.
+-- `palette_size`: the base's components times the rows, no more than any table has entries.
 use native.Mathlib.Omega.{arith}
 use Rattle.space.proofs.Counts.{few-entries}
 use Rattle.page.specs.Validation.{paletteSize}

@@ -1,10 +1,7 @@
 -- What validation finds is given, and only on an accepted page is the recipe written.
 use mathlib.Core.Path.{sym, ap, _∙_}
-use denote.Ref.{now}
-use Rattle.page.specs.Outcomes.{Outcome, meaning as judged}
-use Rattle.space.specs.Pages.{spaceAt}
-use Rattle.recipe.specs.Writes.{replied, left}
-use Rattle.recipe.specs.Writing.{onAccepted, whereAccepted, writeReply, writeLeft}
+use Rattle.page.specs.Outcomes.{meaning as judged}
+use Rattle.recipe.proofs.Replies.{page-accepted, page-refused}
 use borrow.Author.Needs.{needs}
 use Rattle.recipe.proofs.pages.write.Statement.{statement}
 use Rattle.recipe.proofs.pages.write.Tie as tie
@@ -25,16 +22,11 @@ same-length : tie.Need-same-length
 same-length c = search needs
 
 returns : tie.Need-returns
-unfolding writeReply writeLeft
 returns c =
-    let o = sym (ap judged (c .before .before .before .enum-told .given .1)) ∙ c .before .before .before .before .before .validate .ensures in
-    (c .before .write-space .ensures .0 ∙ ap (λ (o : Outcome). onAccepted o (replied (spaceAt (now (c .before .before .before .before .before .before .before .args .page)) (c .before .before .before .before .before .before .before .args .number)) (now (c .before .before .before .before .before .before .before .args .words)))) o, c .before .write-space .ensures .1 ∙ ap (λ (o : Outcome). whereAccepted o (left (spaceAt (now (c .before .before .before .before .before .before .before .args .page)) (c .before .before .before .before .before .before .before .args .number)) (now (c .before .before .before .before .before .before .before .args .words))) (now (c .before .before .before .before .before .before .before .args .words))) o)
+    page-accepted _ _ _ _ _ (sym (ap judged (c .before .before .before .enum-told .given .1)) ∙ c .before .before .before .before .before .validate .ensures) (c .before .write-space .ensures)
 
 returns-2 : tie.Need-returns-2
-unfolding writeReply writeLeft
-returns-2 c =
-    let o = sym (ap judged (c .before .v .given .1)) ∙ c .before .before .before .validate .ensures in
-    (ap (λ (o : Outcome). onAccepted o (replied (spaceAt (now (c .before .before .before .before .before .args .page)) (c .before .before .before .before .before .args .number)) (now (c .before .before .before .before .before .args .words)))) o, ap (λ (o : Outcome). whereAccepted o (left (spaceAt (now (c .before .before .before .before .before .args .page)) (c .before .before .before .before .before .args .number)) (now (c .before .before .before .before .before .args .words))) (now (c .before .before .before .before .before .args .words))) o)
+returns-2 c = page-refused _ _ _ _ _ (sym (ap judged (c .before .v .given .1)) ∙ c .before .before .before .validate .ensures)
 
 pub write-spec : {M : Type 1} → statement M
 write-spec =

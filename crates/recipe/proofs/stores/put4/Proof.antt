@@ -1,35 +1,12 @@
--- Four stores are a run of four words.
-use Rattle.fixed.proofs.Signs.{back! }
-use lib.ListN.{length-set}
+-- A run of three words and one store are a run of four.
 use native.Mathlib.Numerals.{towards-suc}
-use native.Mathlib.Omega.{arith}
+use Rattle.fixed.proofs.Signs.{back! }
 use borrow.Author.Needs.{needs}
 use Rattle.recipe.proofs.stores.put4.Statement.{statement}
 use Rattle.recipe.proofs.stores.put4.Tie as tie
 
-mul-a : tie.Need-mul-a
-mul-a c = search needs
-
-slice-set-from-a : tie.Need-slice-set-from-a
-slice-set-from-a c = search needs
-
-add-b : tie.Need-add-b
-add-b c = search needs
-
-mul-b : tie.Need-mul-b
-mul-b c = search needs
-
-slice-set-from-b : tie.Need-slice-set-from-b
-slice-set-from-b c = simp length-set (omega arith)
-
-add-c : tie.Need-add-c
-add-c c = search needs
-
-mul-c : tie.Need-mul-c
-mul-c c = search needs
-
-slice-set-from-c : tie.Need-slice-set-from-c
-slice-set-from-c c = simp length-set (omega arith)
+put3-requires : tie.Need-put3-requires
+put3-requires c κs = search needs
 
 add-d : tie.Need-add-d
 add-d c = search needs
@@ -38,28 +15,15 @@ mul-d : tie.Need-mul-d
 mul-d c = search needs
 
 slice-set-from-d : tie.Need-slice-set-from-d
-slice-set-from-d c = simp length-set (omega arith)
+slice-set-from-d c = search needs
 
 same-length : tie.Need-same-length
 same-length c = search needs
 
 returns : tie.Need-returns
-returns c = simp (back! (c .fits .a), back! (c .fits .b), back! (c .fits .c), back! (c .fits .d), towards-suc)
+returns c =
+    let f = c .before .before .before .fits in
+    simp (c .before .put3 .ensures, back! (f .a), back! (f .b), back! (f .c), back! (f .d), towards-suc)
 
 pub put4-spec : {M : Type 1} → statement M
-put4-spec =
-    tie.close
-    (tie.spec
-    mul-a
-    slice-set-from-a
-    add-b
-    mul-b
-    slice-set-from-b
-    add-c
-    mul-c
-    slice-set-from-c
-    add-d
-    mul-d
-    slice-set-from-d
-    same-length
-    returns)
+put4-spec = tie.close (tie.spec put3-requires add-d mul-d slice-set-from-d same-length returns)
