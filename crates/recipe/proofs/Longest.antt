@@ -20,7 +20,7 @@ use Rattle.recipe.specs.Recipes.{limitsOf, stepsOf, recipeOf}
 
 -- ---- Document 01's lengths
 
--- of a space whose recipe has its length
+-- a space whose recipe is as long as the table says
 abbrev Right : Space → Type 0
 Right s = length (recipeOf s) ≡ wordsOf s
 

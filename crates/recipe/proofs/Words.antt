@@ -60,17 +60,6 @@ rgb-set d at ga gb gc xa ya za xb yb zb xc yc zc eu ex ey ez =
 
 -- ---- Steps 2 and 3, over the space at the inner number, which the code has as b, of m components
 
-row-size : (page : List ℕ) (n : ℕ) (s : Space) → length (rowWords page n s) ≡ 3 + countOf s * (hivalAt page n + 1)
-unfolding rowWords
-row-size page n s = let e = table-length page n s in omega arith
-
-tint-size : (page : List ℕ) (n : ℕ) (s : Space) → length (tintWords page n s) ≡ 3 + countOf s + countOf s
-unfolding tintWords
-tint-size page n s =
-    let e : length (c0Of page n s ++ c1Of page n s) ≡ countOf s + countOf s =
-    length-append (c0Of page n s) (c1Of page n s) ∙ ap₂ (λ (i j : ℕ). i + j) (c0-length page n s) (c1-length page n s) in
-    omega arith
-
 module _ (page : List ℕ) (n b m : ℕ) (em : m ≡ countOf (spaceAt page b)) (eb : b ≡ innerAt page n) where
   abbrev base : Space
   base = spaceAt page (innerAt page n)
@@ -79,10 +68,14 @@ module _ (page : List ℕ) (n b m : ℕ) (em : m ≡ countOf (spaceAt page b)) (
   counted = em ∙ ap (λ (i : ℕ). countOf (spaceAt page i)) eb
 
   row-length : (h : ℕ) → h ≡ hivalAt page n → length (rowWords page n base) ≡ 3 + m * (h + 1)
-  row-length h eh = row-size page n base ∙ rw (counted, eh)
+  unfolding rowWords
+  row-length h eh = let e = table-length page n base in rw (counted, eh) (omega arith)
 
-  tint-length : length (tintWords page n base) ≡ 3 + m + m
-  tint-length = tint-size page n base ∙ rw counted
+  tint-length : length (tintWords page n base) ≡ 3 + 2 * m
+  unfolding tintWords
+  tint-length =
+      let e = length-append (c0Of page n base) (c1Of page n base) in
+      omega (arith, c0-length page n base, c1-length page n base, counted)
 
   module _ (at : ℕ) (d : List ℤ) where
     pub row-fits : (h : ℕ) → h ≡ hivalAt page n → at + length (rowWords page n base) ≤ length d → at + 3 + m * (h + 1) ≤ length d
