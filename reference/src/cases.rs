@@ -21,6 +21,7 @@
 mod blocks;
 mod colours;
 mod pages;
+mod paper;
 
 use crate::block::{read_block, write_block, Body, Record, BLOCK, BODY, NAME};
 use crate::cie::{cal_gray, cal_rgb, decode, lab, Answer};
@@ -347,39 +348,6 @@ impl Maker {
     }
 }
 
-/// A group of cases that can be put to the program apart from the others.
-#[derive(Clone, Copy)]
-pub struct Group {
-    /// The word that asks for the group.
-    pub name: &'static str,
-    /// Makes the group's cases.
-    make: fn() -> Vec<Case>,
-}
-
-/// One block read and written by itself: operations 20 and 21.
-pub const BLOCK_CASES: Group = Group {
-    name: "blocks",
-    make: blocks::cases,
-};
-
-/// Pages validated and listed: operations 30 and 34.
-pub const PAGE_CASES: Group = Group {
-    name: "pages",
-    make: pages::cases,
-};
-
-/// Colours, recipes and runs: operations 31, 32 and 33.
-pub const COLOUR_CASES: Group = Group {
-    name: "colours",
-    make: colours::cases,
-};
-
-/// Every group.
-pub const GROUPS: [Group; 3] = [BLOCK_CASES, PAGE_CASES, COLOUR_CASES];
-
-/// The groups that are put to the program without being asked for.
-const ON: &[Group] = &[BLOCK_CASES, PAGE_CASES, COLOUR_CASES];
-
 /// The white point of the paper's examples, X and Z: 0.9505 and 1.089.
 const XW: i32 = 950_500;
 const ZW: i32 = 1_089_000;
@@ -686,22 +654,17 @@ fn plain() -> Vec<Case> {
     maker.cases
 }
 
-/// All the worked cases that are switched on, in the order in which they are put to the program.
+/// All the worked cases, in the order in which they are put to the program: the paper's own, numbers and steps,
+/// one block by itself, pages, and colours with their recipes.
 pub fn all() -> Vec<Case> {
-    with(&[])
-}
-
-/// The worked cases that are switched on, and these groups, each once.
-pub fn with(groups: &[Group]) -> Vec<Case> {
-    let mut cases = plain();
-    let mut seen = Vec::new();
-    for group in ON.iter().chain(groups) {
-        if !seen.contains(&group.name) {
-            seen.push(group.name);
-            cases.extend((group.make)());
-        }
-    }
-    cases
+    let groups = [
+        paper::cases,
+        plain,
+        blocks::cases,
+        pages::cases,
+        colours::cases,
+    ];
+    groups.iter().flat_map(|make| make()).collect()
 }
 
 /// The text that puts cases to the program: one case to a line.
@@ -724,9 +687,9 @@ mod tests {
         case.and_then(|case| case.result()).unwrap()
     }
 
-    /// The reply of a case of this operation, any group's.
+    /// The reply of a case of this operation.
     fn reply_of(op: u32, label: &str) -> String {
-        let mut cases = with(&GROUPS).into_iter();
+        let mut cases = all().into_iter();
         let case = cases.find(|case| case.op == op && case.label == label);
         case.and_then(|case| case.result()).expect(label)
     }
@@ -738,7 +701,7 @@ mod tests {
 
     #[test]
     fn the_cases_are_well_formed() {
-        let cases = with(&GROUPS);
+        let cases = all();
         let mut labels = HashSet::new();
         for case in &cases {
             assert!(!case.label.is_empty() && case.label.len() <= 100);
@@ -750,14 +713,12 @@ mod tests {
             assert!(case.output_line().len() <= 65_000, "{}", case.label);
         }
         assert_eq!(ops(&plain()), (1..=13).collect::<Vec<_>>());
-        assert_eq!(ops(&(BLOCK_CASES.make)()), [20, 21]);
-        assert_eq!(ops(&(PAGE_CASES.make)()), [30, 34]);
-        assert_eq!(ops(&(COLOUR_CASES.make)()), [31, 32, 33]);
+        assert_eq!(ops(&paper::cases()), [30, 31, 32, 33, 34]);
+        assert_eq!(ops(&blocks::cases()), [20, 21]);
+        assert_eq!(ops(&pages::cases()), [30, 34]);
+        assert_eq!(ops(&colours::cases()), [31, 32, 33]);
         assert_eq!(input_text(&cases).lines().count(), cases.len());
         assert_eq!(output_text(&cases).lines().count(), cases.len());
-        // A group that is asked for twice comes once.
-        let twice = [GROUPS, GROUPS].concat();
-        assert_eq!(with(&twice), cases);
     }
 
     /// A line's case, read as the program reads it.
@@ -797,7 +758,7 @@ mod tests {
 
     #[test]
     fn lines_are_read_back() {
-        for case in with(&GROUPS) {
+        for case in all() {
             assert_eq!(parse(&case.input_line()), case);
         }
         let both = parse("a label: 30 x.0000.ff.0a");
@@ -806,7 +767,7 @@ mod tests {
 
     #[test]
     fn every_refusal_is_reached() {
-        let cases = with(&GROUPS);
+        let cases = all();
         let replies: Vec<(u32, String)> = cases
             .iter()
             .map(|case| (case.op, case.result().unwrap()))
@@ -841,7 +802,7 @@ mod tests {
 
     #[test]
     fn a_recipe_replies_what_its_page_replies() {
-        let cases = with(&GROUPS);
+        let cases = all();
         let mut compared = 0;
         for case in cases.iter().filter(|case| case.op == 33) {
             if let Some(label) = case.label.strip_suffix(", by its recipe") {
@@ -948,7 +909,7 @@ mod tests {
             (33, "Lab (0,0,0), zeros, by its recipe", &zeros),
             (
                 31,
-                "tint 0.375 of -1 to 3, the result is limited, not the ends",
+                "tint 0.375 of -1 to 3, the result is limited, not C0 and C1",
                 "Gray 3fe0000000000000",
             ),
             (31, "5 components for DeviceCMYK", "refused 9 block 0"),
@@ -976,7 +937,7 @@ mod tests {
         let gray = "CalGray block 0, white 0.9505 1 1.089, black 0, gamma 1, written";
         assert!(reply_of(21, gray).ends_with(".042a0bd6"));
         assert!(reply_of(21, "free block 5 has check 5 and 2525, written").ends_with("...0509dd"));
-        let byte = "index 181 is byte B5, which gives 709804, on a page";
+        let byte = "byte B5 over 0..1 gives 709804, on a page";
         assert_eq!(reply_of(31, byte), answer_text(&Answer::Gray(0.709804)));
         let room = "hival 255 over CMYK, 1045 words into 1046";
         assert!(reply_of(32, room).starts_with("words 1045 kept 1 2 4 255 0 "));

@@ -1,26 +1,23 @@
 //! Prints the worked cases: `cases stdin` the text that is put to the program under test,
-//! `cases stdout` the text that it is expected to write. The words `blocks`, `pages` and `colours`
-//! after that add those groups.
+//! `cases stdout` the text that it is expected to write.
 
-use reference::cases::{input_text, output_text, with, Case, Group, GROUPS};
+use reference::cases::{all, input_text, output_text};
 use std::io::Write;
 use std::process::ExitCode;
 
-/// The text that the words after the program's name ask for.
+/// The text that the word after the program's name asks for.
 fn text(mut words: impl Iterator<Item = String>) -> Option<String> {
-    let part: fn(&[Case]) -> String = match words.next()?.as_str() {
-        "stdin" => input_text,
-        "stdout" => output_text,
+    let text = match words.next()?.as_str() {
+        "stdin" => input_text(&all()),
+        "stdout" => output_text(&all()),
         _ => return None,
     };
-    let group = |word: String| GROUPS.into_iter().find(|group| group.name == word);
-    let groups: Vec<Group> = words.map(group).collect::<Option<_>>()?;
-    Some(part(&with(&groups)))
+    words.next().is_none().then_some(text)
 }
 
 fn main() -> ExitCode {
     let Some(text) = text(std::env::args().skip(1)) else {
-        eprintln!("usage: cases stdin|stdout [blocks] [pages] [colours]");
+        eprintln!("usage: cases stdin|stdout");
         return ExitCode::from(2);
     };
     match std::io::stdout().lock().write_all(text.as_bytes()) {

@@ -18,7 +18,7 @@ impl Maker {
     }
 
     /// Writes a recipe into room for this many words.
-    fn write_recipe(&mut self, label: &str, page: &[u8], number: u32, length: usize) {
+    pub(super) fn write_recipe(&mut self, label: &str, page: &[u8], number: u32, length: usize) {
         self.add(32, label, &[number as i32, length as i32], Some(page));
     }
 
@@ -29,7 +29,7 @@ impl Maker {
     }
 
     /// Evaluates a colour, and runs it through the space's recipe.
-    fn colour(&mut self, label: &str, page: &[u8], number: u32, colour: &[i32]) {
+    pub(super) fn colour(&mut self, label: &str, page: &[u8], number: u32, colour: &[i32]) {
         self.evaluate(label, page, number, colour);
         if let Ok(words) = recipe_of(page, number) {
             self.run(&format!("{label}, by its recipe"), &words, colour);
@@ -89,13 +89,6 @@ fn devices(maker: &mut Maker) {
 /// CalGray.
 fn cal_grays(maker: &mut Maker) {
     let paper = page(&[cal_gray(0, ONE)]);
-    maker.colour(
-        "CalGray, its colour 1 gives the white point's floats",
-        &paper,
-        0,
-        &[ONE],
-    );
-    maker.colour("CalGray, -3 gives zeros", &paper, 0, &[-3 * ONE]);
     maker.colour("CalGray, 7 is limited to 1", &paper, 0, &[7 * ONE]);
     for units in 1..=4 {
         let page = page(&[cal_gray(0, units * ONE)]);
@@ -115,8 +108,7 @@ fn cal_grays(maker: &mut Maker) {
 fn cal_rgbs(maker: &mut Maker) {
     let plain = page(&[cal_rgb(0, [ONE; 3])]);
     for (label, colour) in [
-        ("CalRGB, the first three numbers belong to A", [ONE, 0, 0]),
-        ("CalRGB, the next three to B", [0, ONE, 0]),
+        ("CalRGB, the next three numbers belong to B", [0, ONE, 0]),
         ("CalRGB, the last three to C", [0, 0, ONE]),
         ("CalRGB, all at 1", [ONE; 3]),
         ("CalRGB, limited to 0 and 1", [-1, ONE + 1, i32::MAX]),
@@ -145,14 +137,6 @@ fn cal_rgbs(maker: &mut Maker) {
 fn labs(maker: &mut Maker) {
     let usual = page(&[lab(0, USUAL)]);
     for (label, colour) in [
-        ("Lab (100,0,0), the white point's floats", [100 * ONE, 0, 0]),
-        ("Lab (0,0,0), zeros", [0; 3]),
-        ("L* 8 with a = b = 0 is cubed in all three", [8 * ONE, 0, 0]),
-        (
-            "7.999999 with a = b = 0 is cubed in none",
-            [7_999_999, 0, 0],
-        ),
-        ("at L* 8, a* -1 the first is not cubed", [8 * ONE, -ONE, 0]),
         ("at L* 8, b* 1 the third is not cubed", [8 * ONE, 0, ONE]),
         (
             "at L* 7.999999, a* 1 the first alone is cubed",
@@ -176,23 +160,18 @@ fn labs(maker: &mut Maker) {
 }
 
 /// An Indexed space over Gray whose row r has the byte r.
-fn counting(hival: u16) -> Vec<u8> {
+pub(super) fn counting(hival: u16) -> Vec<u8> {
     let bytes: Vec<u8> = (0..=hival).map(|row| row as u8).collect();
     page(&indexed_run(0, DEVICE_GRAY, hival, &bytes))
 }
 
 /// Which row an index picks.
 fn indices(maker: &mut Maker) {
-    let (four, most, all) = (counting(3), counting(254), counting(255));
+    let (four, all) = (counting(3), counting(255));
     for (label, page, v) in [
-        ("index 2.5, hival 3, picks row 3", &four, 2_500_000),
         ("index 2.499999, hival 3, picks row 2", &four, 2_499_999),
-        ("index 2.5, hival 255, picks row 3", &all, 2_500_000),
-        ("-0.5 picks row 0", &four, -500_000),
-        ("-0.500001 picks row 0", &four, -500_001),
         ("index 0.5 picks row 1", &four, 500_000),
         ("index 3.5 with hival 3 stays at 3", &four, 3_500_000),
-        ("index 254.5 with hival 254 picks 254", &most, 254_500_000),
         ("index 254.5 with hival 255 picks 255", &all, 254_500_000),
         (
             "index 254.499999 with hival 255 picks 254",
@@ -201,7 +180,6 @@ fn indices(maker: &mut Maker) {
         ),
         ("the least index picks row 0", &all, i32::MIN),
         ("the greatest index picks the last row", &all, i32::MAX),
-        ("index 181 is byte B5, which gives 709804", &all, 181 * ONE),
     ] {
         maker.colour(&format!("{label}, on a page"), page, 0, &[v]);
     }
@@ -268,15 +246,6 @@ fn palettes(maker: &mut Maker) {
             maker.colour(&label, &page, 0, &[row * ONE]);
         }
     }
-    // Bytes of a Lab base are scaled to its ranges, not to 0..1: 0 is amin, FF bmax.
-    let ends = indexed_run(0, 2, 0, &[0xff, 0, 0xff]);
-    let ranged = page(&[&ends[..], &[lab(2, [-50 * ONE, 0, 0, 25 * ONE])]].concat());
-    maker.colour(
-        "Lab base, bytes FF 00 FF are 100 amin bmax",
-        &ranged,
-        0,
-        &[0],
-    );
     for (name, page) in [
         ("CMYK", page(&[over_cmyk(0)])),
         ("Lab", page(&[over_lab(0, 1), lab(1, USUAL)])),
@@ -301,14 +270,7 @@ fn tints(maker: &mut Maker) {
     for (label, v) in [
         ("tint 0 gives C0, then the alternate's limit", 0),
         ("tint 1 gives C1, then the alternate's limit", ONE),
-        (
-            "tint 0.375 of -1 to 3, the result is limited, not the ends",
-            375_000,
-        ),
-        (
-            "tint 0.5 of -1 to 3, the result is limited, not the ends",
-            HALF,
-        ),
+        ("tint 0.5 of -1 to 3, beyond the end after the tint", HALF),
         ("tint below 0", -1),
         ("tint above 1", i32::MAX),
     ] {
@@ -458,7 +420,7 @@ fn recipes(maker: &mut Maker) {
     maker.write_recipe("recipe of CalRGB, 1100 words", &rgb, 0, 1100);
     let bytes: Vec<u8> = (0..1024).map(|place| (place * 7 % 256) as u8).collect();
     let large = page(&indexed_run(0, DEVICE_CMYK, 255, &bytes));
-    for length in [1044, 1045, 1046, 1100] {
+    for length in [1046, 1100] {
         let label = format!("hival 255 over CMYK, 1045 words into {length}");
         maker.write_recipe(&label, &large, 0, length);
     }
