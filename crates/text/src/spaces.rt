@@ -1,12 +1,18 @@
 // A space on a page, as the listing has it.
+ghost use mathlib.Core.Path.{_≡_};
+ghost use mathlib.Core.Bool.{_&&_};
+ghost use lib.Dec.{leb};
+ghost use Rattle.space.specs.Numbers.{kindAt};
 use crate::output::say;
 use crate::output::say_size;
 use space::components;
 use space::kind;
 use space::words;
 
-// Whether block i is listed: a space, neither free nor a palette.
-pub fn is_listed(page: &[u8], i: u32) -> bool {
+// Whether block i is listed: kinds 1 to 5, neither free nor a palette.
+pub fn is_listed(page: &[u8], i: u32) -> bool
+    ensures { λ r. ⌜ r ≡ (leb 1 (kindAt (now (page .entry)) i) && leb (kindAt (now (page .entry)) i) 5) ⌝ }
+{
     let k = kind(page, i);
     (1 <= k) & (k <= 5)
 }
