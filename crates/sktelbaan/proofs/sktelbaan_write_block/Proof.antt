@@ -1,7 +1,7 @@
 -- Each exit is a law: too few or too many bytes, numbers that make no record, and what `write` says.
 use mathlib.Core.Path.{sym, _∙_}
 use denote.Ref.{now}
-use Rattle.fixed.proofs.Decide.{not-true, not-false}
+use borrow.Author.Tests.{not-true, not-false}
 use Rattle.sktelbaan.proofs.Blocks.{put-short, put-unfit, put-kept, put-done}
 use borrow.Author.Needs.{needs}
 use Rattle.sktelbaan.proofs.sktelbaan_write_block.Statement.{statement}

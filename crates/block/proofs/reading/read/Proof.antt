@@ -3,7 +3,7 @@ use mathlib.Core.Path.{refl, sym, ap, _∙_}
 use native.Mathlib.Omega.{arith}
 use denote.Ref.{now}
 use Rattle.block.proofs.Exits.{read-short, read-unchecked, read-unknown, read-fault, read-refused, read-done}
-use Rattle.fixed.proofs.Decide.{not-true, not-false}
+use borrow.Author.Tests.{not-true, not-false}
 use Rattle.record.specs.Rules.{faultOf}
 use borrow.Author.Needs.{needs}
 use Rattle.block.proofs.reading.read.Statement.{statement}

@@ -3,7 +3,8 @@ use mathlib.Core.Path.{_≡_, refl}
 use mathlib.Core.Bool.{Bool, _&&_}
 use Prim.Native.Nat.{ℕ}
 use lib.Dec.{eqb}
-use Rattle.fixed.proofs.Decide.{is-yes, is-no, not-true, not-false}
+use borrow.Author.Tests.{not-true, not-false}
+use Rattle.fixed.proofs.Decide.{is-yes, is-no}
 use Rattle.page.specs.Validation.{faultOne}
 use borrow.Author.Needs.{needs}
 use Rattle.page.proofs.first.fault_one.Statement.{statement}

@@ -1,6 +1,7 @@
 -- `fault_owed`: each exit is the first test that fails, and those before it passed.
 use mathlib.Core.Path.{refl, ap, _∙_}
-use Rattle.fixed.proofs.Decide.{is-yes, is-no, not-true, not-false}
+use borrow.Author.Tests.{not-true, not-false}
+use Rattle.fixed.proofs.Decide.{is-yes, is-no}
 use Rattle.record.specs.Rules.{lawful, supported}
 use Rattle.page.specs.Validation.{permitted, held, faultOwed}
 use borrow.Author.Needs.{needs}

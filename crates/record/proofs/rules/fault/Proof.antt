@@ -1,7 +1,8 @@
 -- `fault`: each exit is the first test that fails, and those before it passed.
 use mathlib.Core.Path.{refl}
 use Rattle.record.specs.Rules.{faultOf}
-use Rattle.fixed.proofs.Decide.{is-yes, is-no, not-true, not-false}
+use borrow.Author.Tests.{not-true, not-false}
+use Rattle.fixed.proofs.Decide.{is-yes, is-no}
 use borrow.Author.Needs.{needs}
 use Rattle.record.proofs.rules.fault.Statement.{statement}
 use Rattle.record.proofs.rules.fault.Tie as tie
