@@ -4,9 +4,7 @@
 use reference::block::{DEVICE_CMYK, DEVICE_GRAY, DEVICE_RGB};
 use reference::generate::Rng;
 use reference::numbers::ONE;
-use reference::records::{
-    cal_gray, cal_rgb, free, indexed_run, lab, page, separation, NINE, USUAL, WHITE,
-};
+use reference::records::{cal_gray, cal_rgb, free, indexed_run, lab, page, separation, USUAL};
 use std::hint::black_box;
 use std::time::Instant;
 
