@@ -28,16 +28,6 @@ fn put_triple(out: &mut [u8], at: usize, t: Triple)
     put_num(out, at + 8, t.z);
 }
 
-fn put_ranges(out: &mut [u8], at: usize, q: Ranges)
-    requires { ⌜ at + 16 ≤ length (now out) ⌝ }
-    ensures { λ _. ⌜ now (out .exit) ≡ puts (now (out .entry)) at (ranges q []) ⌝ }
-{
-    put_num(out, at, q.amin);
-    put_num(out, at + 4, q.amax);
-    put_num(out, at + 8, q.bmin);
-    put_num(out, at + 12, q.bmax);
-}
-
 fn put_four(out: &mut [u8], at: usize, q: Four)
     requires { ⌜ at + 16 ≤ length (now out) ⌝ }
     ensures { λ _. ⌜ now (out .exit) ≡ puts (now (out .entry)) at (four q []) ⌝ }
@@ -46,6 +36,23 @@ fn put_four(out: &mut [u8], at: usize, q: Four)
     put_num(out, at + 4, q.b);
     put_num(out, at + 8, q.c);
     put_num(out, at + 12, q.d);
+}
+
+// The ranges are stored as four numbers.
+fn put_ranges(out: &mut [u8], at: usize, q: Ranges)
+    requires { ⌜ at + 16 ≤ length (now out) ⌝ }
+    ensures { λ _. ⌜ now (out .exit) ≡ puts (now (out .entry)) at (ranges q []) ⌝ }
+{
+    put_four(
+        out,
+        at,
+        Four {
+            a: q.amin,
+            b: q.amax,
+            c: q.bmin,
+            d: q.bmax,
+        },
+    );
 }
 
 fn put_gray(out: &mut [u8], g: CalGray)

@@ -1,5 +1,6 @@
 -- Laws that several proofs cite, here and in the crates above.
 pub mod Sums
 pub mod Runs
+pub mod Fours
 pub mod Ranges
 pub mod Shapes

@@ -26,22 +26,6 @@ fn triple_at(page: &[u8], n: u32, at: u32) -> Triple
     Triple { x, y, z }
 }
 
-fn ranges_at(page: &[u8], n: u32, at: u32) -> Ranges
-    requires { ⌜ at < 500 ⌝ }
-    ensures { λ r. ⌜ r ≡ rangesAt (blockAt (now (page .entry)) n) at ⌝ }
-{
-    let amin = number(page, n, at);
-    let amax = number(page, n, at + 4);
-    let bmin = number(page, n, at + 8);
-    let bmax = number(page, n, at + 12);
-    Ranges {
-        amin,
-        amax,
-        bmin,
-        bmax,
-    }
-}
-
 fn four_at(page: &[u8], n: u32, at: u32) -> Four
     requires { ⌜ at < 500 ⌝ }
     ensures { λ r. ⌜ r ≡ fourAt (blockAt (now (page .entry)) n) at ⌝ }
@@ -51,6 +35,20 @@ fn four_at(page: &[u8], n: u32, at: u32) -> Four
     let c = number(page, n, at + 8);
     let d = number(page, n, at + 12);
     Four { a, b, c, d }
+}
+
+// The ranges are four numbers.
+fn ranges_at(page: &[u8], n: u32, at: u32) -> Ranges
+    requires { ⌜ at < 500 ⌝ }
+    ensures { λ r. ⌜ r ≡ rangesAt (blockAt (now (page .entry)) n) at ⌝ }
+{
+    let q = four_at(page, n, at);
+    Ranges {
+        amin: q.a,
+        amax: q.b,
+        bmin: q.c,
+        bmax: q.d,
+    }
 }
 
 fn gray_at(page: &[u8], n: u32) -> CalGray

@@ -1,57 +1,22 @@
--- `put_ranges`: four numbers, each stored where the one before it ends.
-use mathlib.Core.List.{[], _∷_}
-use Prim.Native.Nat.{_+_}
-use native.Mathlib.Omega.{arith}
-use denote.Ref.{now}
-use Rattle.layout.specs.Field.{num}
-use Rattle.layout.proofs.Puts.{next, sent}
+-- `put_ranges` stores the same numbers as `put_four`, once their bits are read back.
+use mathlib.Core.Path.{_∙_}
+use Rattle.fixed.proofs.Signs.{came}
 use borrow.Author.Needs.{needs}
 use Rattle.block.proofs.fields.put_ranges.Statement.{statement}
 use Rattle.block.proofs.fields.put_ranges.Tie as tie
 
-put-num-requires : tie.Need-put-num-requires
-put-num-requires c κs = search needs
-
-add-put-num : tie.Need-add-put-num
-add-put-num c = search needs
-
-put-num-requires-2 : tie.Need-put-num-requires-2
-put-num-requires-2 c κs = search needs
-
-add-put-num-2 : tie.Need-add-put-num-2
-add-put-num-2 c = search needs
-
-put-num-requires-3 : tie.Need-put-num-requires-3
-put-num-requires-3 c κs = search needs
-
-add-put-num-3 : tie.Need-add-put-num-3
-add-put-num-3 c = search needs
-
-put-num-requires-4 : tie.Need-put-num-requires-4
-put-num-requires-4 c κs = search needs
+put-four-requires : tie.Need-put-four-requires
+put-four-requires c κs = search needs
 
 same-length : tie.Need-same-length
 same-length c = search needs
 
 returns : tie.Need-returns
-returns c = let out = now (c .before .before .before .before .before .before .before .before .before .before .before .before .before .before .before .before .before .before .before .before .before .args .out) in
-    let at = c .before .before .before .before .before .before .before .before .before .before .before .before .before .before .before .before .before .before .before .before .before .args .at in
-    let t = c .before .before .before .before .before .before .before .before .before .before .before .before .before .before .before .before .before .before .struct-told .given in
-    next out at (num _ ∷ []) _ (at + 4) (omega arith) (sent _ _ _ (t .0 .1) (c .before .before .before .before .before .before .before .before .before .before .before .before .before .before .before .before .before .put-num .ensures))
-    (next _ (at + 4) (num _ ∷ []) _ (at + 8) (omega arith) (sent _ _ _ (t .1 .0 .1) (c .before .before .before .before .before .before .before .before .before .before .before .before .put-num2 .ensures))
-    (next _ (at + 8) (num _ ∷ []) _ (at + 12) (omega arith) (sent _ _ _ (t .1 .1 .0 .1) (c .before .before .before .before .before .before .before .put-num3 .ensures))
-    (sent _ _ _ (t .1 .1 .1 .0 .1) (c .before .before .put-num4 .ensures))))
+returns c =
+    let q = c .before .before .before .before .before .before .args .q in
+    let t = c .before .before .before .struct-told .given in
+    c .before .before .put-four .ensures
+    ∙ simp (came (q .amin) (t .0 .1), came (q .amax) (t .1 .0 .1), came (q .bmin) (t .1 .1 .0 .1), came (q .bmax) (t .1 .1 .1 .0 .1))
 
 pub put-ranges-spec : {M : Type 1} → statement M
-put-ranges-spec =
-    tie.close
-    (tie.spec
-    put-num-requires
-    add-put-num
-    put-num-requires-2
-    add-put-num-2
-    put-num-requires-3
-    add-put-num-3
-    put-num-requires-4
-    same-length
-    returns)
+put-ranges-spec = tie.close (tie.spec put-four-requires same-length returns)
