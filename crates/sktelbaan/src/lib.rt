@@ -11,6 +11,7 @@ ghost use Rattle.sktelbaan.specs.Replies.{inHalves, replyOf, floatsOf, v
 ghost use Rattle.sktelbaan.specs.Records.{putNumber, putBlock, gotNumbers, gotBytes};
 
 mod answers;
+mod numbers;
 mod records;
 
 use block::Reply;
@@ -93,7 +94,7 @@ pub extern "C" fn sktelbaan_read_block(
         Reply::Done => {
             let r = a.found;
             let y = r.body;
-            let v = records::numbers_of(r.own, y);
+            let v = numbers::numbers_of(r.own, y);
             let s = r.bytes;
             *numbers = v;
             *bytes = s;

@@ -1,7 +1,7 @@
-// A record as C has it, 20 numbers and 504 bytes, and back.
+// The record of what C has of it: 20 numbers and 504 bytes.
 ghost use mathlib.Core.Path.{_≡_};
 ghost use Rattle.layout.specs.Field.{padded};
-ghost use Rattle.sktelbaan.specs.Records.{small as smallIn, roomy, fitting, oneOf, twoOf, tripleOf, rangesOf, fourOf, grayOf, rgbOf, labOf, inkOf, bodyOf, recordOf, headed};
+ghost use Rattle.sktelbaan.specs.Records.{small as smallIn, roomy, fitting, oneOf, twoOf, tripleOf, rangesOf, fourOf, grayOf, rgbOf, labOf, inkOf, bodyOf, recordOf};
 use fixed::small_at;
 use fixed::value_at;
 use record::Body;
@@ -55,21 +55,6 @@ fn triple_of(v: &[i32], i: usize, j: usize, k: usize) -> Triple
     Triple { x, y, z }
 }
 
-fn ranges_of(v: &[i32]) -> Ranges
-    ensures { λ r. ⌜ r ≡ rangesOf (now (v .entry)) ⌝ }
-{
-    let amin = value_at(v, 8);
-    let amax = value_at(v, 9);
-    let bmin = value_at(v, 10);
-    let bmax = value_at(v, 11);
-    Ranges {
-        amin,
-        amax,
-        bmin,
-        bmax,
-    }
-}
-
 fn four_of(v: &[i32], i: usize, j: usize, k: usize, l: usize) -> Four
     ensures { λ r. ⌜ r ≡ fourOf (now (v .entry)) i j k l ⌝ }
 {
@@ -78,6 +63,19 @@ fn four_of(v: &[i32], i: usize, j: usize, k: usize, l: usize) -> Four
     let c = value_at(v, k);
     let d = value_at(v, l);
     Four { a, b, c, d }
+}
+
+// The ranges are four numbers.
+fn ranges_of(v: &[i32]) -> Ranges
+    ensures { λ r. ⌜ r ≡ rangesOf (now (v .entry)) ⌝ }
+{
+    let q = four_of(v, 8, 9, 10, 11);
+    Ranges {
+        amin: q.a,
+        amax: q.b,
+        bmin: q.c,
+        bmax: q.d,
+    }
 }
 
 fn gray_of(v: &[i32]) -> CalGray
@@ -181,221 +179,4 @@ pub fn record_of(v: &[i32], s: &[u8; 504]) -> Record
     let body = body_of(kind, v);
     let bytes = room_of(s);
     Record { own, body, bytes }
-}
-
-fn gray_numbers(own: u16, g: CalGray) -> [i32; 20]
-    ensures { λ r. ⌜ r ≡ headed own (Body.CalGray g) ⌝ }
-{
-    let w = g.white;
-    let k = g.black;
-    [
-        own as i32,
-        1,
-        w.x,
-        w.y,
-        w.z,
-        k.x,
-        k.y,
-        k.z,
-        g.gamma,
-        0,
-        0,
-        0,
-        0,
-        0,
-        0,
-        0,
-        0,
-        0,
-        0,
-        0,
-    ]
-}
-
-fn rgb_numbers(own: u16, g: CalRgb) -> [i32; 20]
-    ensures { λ r. ⌜ r ≡ headed own (Body.CalRgb g) ⌝ }
-{
-    let w = g.white;
-    let k = g.black;
-    let e = g.gammas;
-    let a = g.a;
-    let b = g.b;
-    let c = g.c;
-    [
-        own as i32,
-        2,
-        w.x,
-        w.y,
-        w.z,
-        k.x,
-        k.y,
-        k.z,
-        e.x,
-        e.y,
-        e.z,
-        a.x,
-        a.y,
-        a.z,
-        b.x,
-        b.y,
-        b.z,
-        c.x,
-        c.y,
-        c.z,
-    ]
-}
-
-fn lab_numbers(own: u16, g: Lab) -> [i32; 20]
-    ensures { λ r. ⌜ r ≡ headed own (Body.Lab g) ⌝ }
-{
-    let w = g.white;
-    let k = g.black;
-    let q = g.range;
-    [
-        own as i32,
-        3,
-        w.x,
-        w.y,
-        w.z,
-        k.x,
-        k.y,
-        k.z,
-        q.amin,
-        q.amax,
-        q.bmin,
-        q.bmax,
-        0,
-        0,
-        0,
-        0,
-        0,
-        0,
-        0,
-        0,
-    ]
-}
-
-fn indexed_numbers(own: u16, base: u16, hival: u16) -> [i32; 20]
-    ensures { λ r. ⌜ r ≡ headed own (Body.Indexed base hival) ⌝ }
-{
-    [
-        own as i32,
-        4,
-        base as i32,
-        hival as i32,
-        0,
-        0,
-        0,
-        0,
-        0,
-        0,
-        0,
-        0,
-        0,
-        0,
-        0,
-        0,
-        0,
-        0,
-        0,
-        0,
-    ]
-}
-
-fn ink_numbers(own: u16, p: Separation) -> [i32; 20]
-    ensures { λ r. ⌜ r ≡ headed own (Body.Separation p) ⌝ }
-{
-    let c = p.c0;
-    let d = p.c1;
-    [
-        own as i32,
-        5,
-        p.alternate as i32,
-        p.exponent as i32,
-        p.name_len as i32,
-        c.a,
-        c.b,
-        c.c,
-        c.d,
-        d.a,
-        d.b,
-        d.c,
-        d.d,
-        0,
-        0,
-        0,
-        0,
-        0,
-        0,
-        0,
-    ]
-}
-
-fn free_numbers(own: u16) -> [i32; 20]
-    ensures { λ r. ⌜ r ≡ headed own (Body.Free) ⌝ }
-{
-    [
-        own as i32,
-        0,
-        0,
-        0,
-        0,
-        0,
-        0,
-        0,
-        0,
-        0,
-        0,
-        0,
-        0,
-        0,
-        0,
-        0,
-        0,
-        0,
-        0,
-        0,
-    ]
-}
-
-fn palette_numbers(own: u16) -> [i32; 20]
-    ensures { λ r. ⌜ r ≡ headed own (Body.Palette) ⌝ }
-{
-    [
-        own as i32,
-        6,
-        0,
-        0,
-        0,
-        0,
-        0,
-        0,
-        0,
-        0,
-        0,
-        0,
-        0,
-        0,
-        0,
-        0,
-        0,
-        0,
-        0,
-        0,
-    ]
-}
-
-// The numbers of a record of that number and body.
-pub fn numbers_of(own: u16, y: Body) -> [i32; 20]
-    ensures { λ r. ⌜ r ≡ headed own y ⌝ }
-{
-    match y {
-        Body::Free => free_numbers(own),
-        Body::CalGray(g) => gray_numbers(own, g),
-        Body::CalRgb(g) => rgb_numbers(own, g),
-        Body::Lab(g) => lab_numbers(own, g),
-        Body::Indexed { base, hival } => indexed_numbers(own, base, hival),
-        Body::Separation(p) => ink_numbers(own, p),
-        Body::Palette => palette_numbers(own),
-    }
 }

@@ -1,25 +1,15 @@
--- Each field is its number, once its bits are read back.
-use Rattle.fixed.proofs.Signs.{heard}
+-- `ranges_of` has the four numbers of `four_of`, by their names as ranges.
+use Rattle.record.proofs.Fours.{ranged}
 use borrow.Author.Needs.{needs}
 use Rattle.sktelbaan.proofs.records.ranges_of.Statement.{statement}
 use Rattle.sktelbaan.proofs.records.ranges_of.Tie as tie
 
-value-at-requires : tie.Need-value-at-requires
-value-at-requires c κs = search needs
-
-value-at-requires-2 : tie.Need-value-at-requires-2
-value-at-requires-2 c κs = search needs
-
-value-at-requires-3 : tie.Need-value-at-requires-3
-value-at-requires-3 c κs = search needs
-
-value-at-requires-4 : tie.Need-value-at-requires-4
-value-at-requires-4 c κs = search needs
+four-of-requires : tie.Need-four-of-requires
+four-of-requires c κs = search needs
 
 returns : tie.Need-returns
-returns c = λ i. record { amin = heard _ (c .before .before .before .value-at .ok) (c .before .before .before .value-at .ensures) i; amax = heard _ (c .before .before .value-at2 .ok) (c .before .before .value-at2 .ensures) i; bmin = heard _ (c .before .value-at3 .ok) (c .before .value-at3 .ensures) i; bmax = heard _ (c .value-at4 .ok) (c .value-at4 .ensures) i }
+returns c =
+    let t = c .struct-told .given in ranged _ (t .0 .1) (t .1 .0 .1) (t .1 .1 .0 .1) (t .1 .1 .1 .0 .1) (c .before .four-of .ensures)
 
 pub ranges-of-spec : {M : Type 1} → statement M
-ranges-of-spec =
-    tie.close
-    (tie.spec value-at-requires value-at-requires-2 value-at-requires-3 value-at-requires-4 returns)
+ranges-of-spec = tie.close (tie.spec four-of-requires returns)

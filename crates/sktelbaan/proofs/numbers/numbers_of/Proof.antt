@@ -1,13 +1,13 @@
 -- Each kind has its numbers.
 use borrow.Author.Needs.{needs}
-use Rattle.sktelbaan.proofs.records.numbers_of.Statement.{statement}
-use Rattle.sktelbaan.proofs.records.numbers_of.Tie as tie
+use Rattle.sktelbaan.proofs.numbers.numbers_of.Statement.{statement}
+use Rattle.sktelbaan.proofs.numbers.numbers_of.Tie as tie
 
 enum-told : tie.Need-enum-told
 enum-told c = search needs
 
-free-numbers-requires : tie.Need-free-numbers-requires
-free-numbers-requires c κs = search needs
+bare-numbers-requires : tie.Need-bare-numbers-requires
+bare-numbers-requires c κs = search needs
 
 enum-known-y : tie.Need-enum-known-y
 enum-known-y c = search needs
@@ -42,11 +42,11 @@ ink-numbers-requires c κs = search needs
 enum-told-2 : tie.Need-enum-told-2
 enum-told-2 c = search needs
 
-palette-numbers-requires : tie.Need-palette-numbers-requires
-palette-numbers-requires c κs = search needs
+bare-numbers-requires-2 : tie.Need-bare-numbers-requires-2
+bare-numbers-requires-2 c κs = search needs
 
 returns : tie.Need-returns
-returns c = rw (c .before .enum-told .given .1) (c .free-numbers .ensures)
+returns c = rw (c .before .enum-told .given .1) (c .bare-numbers .ensures)
 
 returns-2 : tie.Need-returns-2
 returns-2 c = rw (c .before .before .y .given .1) (c .gray-numbers .ensures)
@@ -64,14 +64,14 @@ returns-6 : tie.Need-returns-6
 returns-6 c = rw (c .before .before .y5 .given .1) (c .ink-numbers .ensures)
 
 returns-7 : tie.Need-returns-7
-returns-7 c = rw (c .before .enum-told2 .given .1) (c .palette-numbers .ensures)
+returns-7 c = rw (c .before .enum-told2 .given .1) (c .bare-numbers2 .ensures)
 
 pub numbers-of-spec : {M : Type 1} → statement M
 numbers-of-spec =
     tie.close
     (tie.spec
     enum-told
-    free-numbers-requires
+    bare-numbers-requires
     enum-known-y
     gray-numbers-requires
     enum-known-y-2
@@ -83,7 +83,7 @@ numbers-of-spec =
     enum-known-y-5
     ink-numbers-requires
     enum-told-2
-    palette-numbers-requires
+    bare-numbers-requires-2
     returns
     returns-2
     returns-3

@@ -1,0 +1,37 @@
+-- White, black and the four numbers of the ranges, once their bits are read back, and zeros.
+use mathlib.Core.Path.{_∙_}
+use Rattle.fixed.proofs.Signs.{came}
+use borrow.Author.Needs.{needs}
+use Rattle.sktelbaan.proofs.numbers.lab_numbers.Statement.{statement}
+use Rattle.sktelbaan.proofs.numbers.lab_numbers.Tie as tie
+
+triple-requires : tie.Need-triple-requires
+triple-requires c κs = search needs
+
+triple-requires-2 : tie.Need-triple-requires-2
+triple-requires-2 c κs = search needs
+
+triple-requires-3 : tie.Need-triple-requires-3
+triple-requires-3 c κs = search needs
+
+laid-requires : tie.Need-laid-requires
+laid-requires c κs = search needs
+
+returns : tie.Need-returns
+returns c =
+    let q = c .before .before .before .before .before .before .before .before .before .before .before .args .g .range in
+    let t = c .before .before .before .before .before .before .before .struct-told .given in
+    c .laid .ensures
+    ∙ simp (
+      c .before .before .before .before .triple .ensures,
+      c .before .before .triple2 .ensures,
+      c .before .triple3 .ensures,
+      came (q .amin) (t .0 .1),
+      came (q .amax) (t .1 .0 .1),
+      came (q .bmin) (t .1 .1 .0 .1),
+      came (q .bmax) (t .1 .1 .1 .0 .1),
+    )
+
+pub lab-numbers-spec : {M : Type 1} → statement M
+lab-numbers-spec =
+    tie.close (tie.spec triple-requires triple-requires-2 triple-requires-3 laid-requires returns)
