@@ -102,6 +102,11 @@ module _ (l : List ℕ) (at : ℕ) (b : Bytes l) where
   unfolding numberAt
   num-in-range = toZ-fits w32 (fourAt l at) four-fits
 
+-- two layouts, one after the other
+pub in-ranges-join : (fs gs : List Field) → InRanges fs → InRanges gs → InRanges (fs ++ gs)
+in-ranges-join [] gs f g = g
+in-ranges-join (x ∷ fs) gs f g = (f .0, in-ranges-join fs gs (f .1) g)
+
 -- ---- what was written is read ..
 
 heard : (l : List ℕ) (at : ℕ) (f : Field) → InRange f → Holds l at (bytesOf f) → Got l at f

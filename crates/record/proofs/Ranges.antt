@@ -3,19 +3,23 @@ use mathlib.Core.List.{List, []}
 use Prim.Native.Nat.{ℕ, _<_}
 use native.Mathlib.Omega.{arith}
 use Rattle.layout.specs.Field.{InRanges}
-use Rattle.record.specs.Layout.{body, fields}
+use Rattle.layout.proofs.Fields.{in-ranges-join}
+use Rattle.record.specs.Layout.{kindOf, body, rest, fields}
 use Rattle.record.specs.declared.types.Body.{Body}
 use Rattle.record.specs.declared.types.Body.the-variants.{Free, CalGray, CalRgb, Lab, Indexed, Separation, Palette}
 use Rattle.record.specs.declared.types.Record.{Record}
 
-by-body : (own : ℕ) (y : Body) (s : List ℕ) → own < 65536 → InRanges (body y []) → InRanges (fields (record { own = own; body = y; bytes = s }))
-by-body own Free s o h = (omega arith, (omega arith, (o, (tt, tt))))
-by-body own (CalGray g) s o h = (omega arith, (omega arith, (o, (h .0, (h .1 .0, (h .1 .1 .0, (h .1 .1 .1 .0, (h .1 .1 .1 .1 .0, (h .1 .1 .1 .1 .1 .0, (h .1 .1 .1 .1 .1 .1 .0, (tt, tt)))))))))))
-by-body own (CalRgb g) s o h = (omega arith, (omega arith, (o, (h .0, (h .1 .0, (h .1 .1 .0, (h .1 .1 .1 .0, (h .1 .1 .1 .1 .0, (h .1 .1 .1 .1 .1 .0, (h .1 .1 .1 .1 .1 .1 .0, (h .1 .1 .1 .1 .1 .1 .1 .0, (h .1 .1 .1 .1 .1 .1 .1 .1 .0, (h .1 .1 .1 .1 .1 .1 .1 .1 .1 .0, (h .1 .1 .1 .1 .1 .1 .1 .1 .1 .1 .0, (h .1 .1 .1 .1 .1 .1 .1 .1 .1 .1 .1 .0, (h .1 .1 .1 .1 .1 .1 .1 .1 .1 .1 .1 .1 .0, (h .1 .1 .1 .1 .1 .1 .1 .1 .1 .1 .1 .1 .1 .0, (h .1 .1 .1 .1 .1 .1 .1 .1 .1 .1 .1 .1 .1 .1 .0, (h .1 .1 .1 .1 .1 .1 .1 .1 .1 .1 .1 .1 .1 .1 .1 .0, (h .1 .1 .1 .1 .1 .1 .1 .1 .1 .1 .1 .1 .1 .1 .1 .1 .0, (h .1 .1 .1 .1 .1 .1 .1 .1 .1 .1 .1 .1 .1 .1 .1 .1 .1 .0, (tt, tt))))))))))))))))))))))
-by-body own (Lab g) s o h = (omega arith, (omega arith, (o, (h .0, (h .1 .0, (h .1 .1 .0, (h .1 .1 .1 .0, (h .1 .1 .1 .1 .0, (h .1 .1 .1 .1 .1 .0, (h .1 .1 .1 .1 .1 .1 .0, (h .1 .1 .1 .1 .1 .1 .1 .0, (h .1 .1 .1 .1 .1 .1 .1 .1 .0, (h .1 .1 .1 .1 .1 .1 .1 .1 .1 .0, (tt, tt))))))))))))))
-by-body own (Indexed base hival) s o h = (omega arith, (omega arith, (o, (h .0, (h .1 .0, (tt, tt))))))
-by-body own (Separation p) s o h = (omega arith, (omega arith, (o, (h .0, (h .1 .0, (h .1 .1 .0, (h .1 .1 .1 .0, (h .1 .1 .1 .1 .0, (h .1 .1 .1 .1 .1 .0, (h .1 .1 .1 .1 .1 .1 .0, (h .1 .1 .1 .1 .1 .1 .1 .0, (h .1 .1 .1 .1 .1 .1 .1 .1 .0, (h .1 .1 .1 .1 .1 .1 .1 .1 .1 .0, (h .1 .1 .1 .1 .1 .1 .1 .1 .1 .1 .0, (h .1 .1 .1 .1 .1 .1 .1 .1 .1 .1 .1 .0, (tt, tt))))))))))))))))
-by-body own Palette s o h = (omega arith, (omega arith, (o, (h .0, (tt, tt)))))
+-- a kind fits a byte, and the bytes of the room are no numbers of the body
+by-kind : (y : Body) (s : List ℕ) → InRanges (body y []) → (kindOf y < 256) × InRanges (body y s)
+by-kind Free s h = (omega arith, h)
+by-kind (CalGray g) s h = (omega arith, h)
+by-kind (CalRgb g) s h = (omega arith, h)
+by-kind (Lab g) s h = (omega arith, h)
+by-kind (Indexed base hival) s h = (omega arith, h)
+by-kind (Separation p) s h = (omega arith, h)
+by-kind Palette s h = (omega arith, h)
 
 pub in-ranges : (r : Record) → r .own < 65536 → InRanges (body (r .body) []) → InRanges (fields r)
-in-ranges r o h = by-body (r .own) (r .body) (r .bytes) o h
+in-ranges r o h =
+    let k = by-kind (r .body) (r .bytes) h in
+    (k .0, (omega arith, (o, in-ranges-join (body (r .body) (r .bytes)) (rest (r .body)) (k .1) (tt, tt))))
