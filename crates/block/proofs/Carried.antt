@@ -1,8 +1,7 @@
 -- The round trips carried to the code: what follows from what `write` and `read` promise, and from nothing else of them.
-use mathlib.Core.Path.{_≡_, refl, sym, ap, _∙_}
+use mathlib.Core.Path.{_≡_, sym, ap, _∙_}
 use mathlib.Core.List.{List}
-use Prim.Native.Nat.{ℕ, zero, suc}
-use native.Mathlib.Omega.{arith}
+use Prim.Native.Nat.{ℕ}
 use borrow.Author.Tests.{ne-eqb}
 use lib.ListN.{length}
 use Rattle.layout.specs.Field.{Bytes}
@@ -14,17 +13,9 @@ use Rattle.record.specs.declared.types.Record.{Record}
 use Rattle.block.specs.declared.types.Reply.{Reply}
 use Rattle.block.specs.declared.types.Reply.the-variants.{Done, Refused}
 use Rattle.block.specs.declared.types.ReadReply.{ReadReply}
-use Rattle.block.specs.Whole.{replyOf, writeNumber, writeOut, nothing, gives, readNumber, readOf, wroteAndRead, copyNumber, copyOut}
-use Rattle.block.proofs.Exits.{replied, refused, number-fault}
+use Rattle.block.specs.Whole.{replyOf, writeNumber, writeOut, nothing, readNumber, readOf, wroteAndRead, copyNumber, copyOut}
+use Rattle.block.proofs.Exits.{replied, refused, done-zero, refused-number, gave-done, gave-refused, number-fault}
 use Rattle.block.proofs.RoundTrips.{accepted, read-written, write-of-read}
-
-done-zero : (n : ℕ) → Done ≡ replyOf n → n ≡ 0
-done-zero zero e = refl
-done-zero (suc n) e = cc
-
-refused-number : (n m : ℕ) → Refused m ≡ replyOf n → (n ≡ m) × (n ≡ 0 → ⊥)
-refused-number zero m e = let z : _≡_ {A = ℕ} 0 1 = cc in absurd (omega arith)
-refused-number (suc n) m e = (cc, λ z. omega arith)
 
 -- a record written into d is read back
 module _ (r : Record) (d : List ℕ) (l : length d ≡ 512) {t : ReadReply} where
@@ -40,14 +31,6 @@ module _ (r : Record) (d : List ℕ) (l : length d ≡ 512) {t : ReadReply} wher
       let p = refused-number _ n e in
       let f : faultOf r ≡ n = sym (number-fault r d l) ∙ p .0 in
       rw f (q ∙ refused n r (λ z. p .1 (p .0 ∙ z)))
-
-gave-done : (n : ℕ) (r : Record) {a : ReadReply} → a ≡ gives n r → a .reply ≡ Done → (n ≡ 0) × (a .found ≡ r)
-gave-done zero r e h = (refl, ap (λ (x : ReadReply). x .found) e)
-gave-done (suc n) r e h = let z : Refused (suc n) ≡ Done = sym (ap (λ (x : ReadReply). x .reply) e) ∙ h in let y : _≡_ {A = ℕ} 0 1 = cc in absurd (omega arith)
-
-gave-refused : (n m : ℕ) (r : Record) {a : ReadReply} → a ≡ gives n r → a .reply ≡ Refused m → (n ≡ m) × (n ≡ 0 → ⊥)
-gave-refused zero m r e h = let z : Done ≡ Refused m = sym (ap (λ (x : ReadReply). x .reply) e) ∙ h in let y : _≡_ {A = ℕ} 0 1 = cc in absurd (omega arith)
-gave-refused (suc n) m r e h = let z : Refused (suc n) ≡ Refused m = sym (ap (λ (x : ReadReply). x .reply) e) ∙ h in (cc, λ y. omega arith)
 
 -- a block read is written into d as it stood
 module _ (b d : List ℕ) {a : ReadReply} (e : a ≡ readOf b) where

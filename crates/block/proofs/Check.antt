@@ -5,7 +5,6 @@ use Prim.Native.Nat.{ℕ, _+_, _-_, _*_, _%_, _<_}
 use native.Mathlib.Nat.{mod-lt}
 use native.Mathlib.Omega.{arith}
 use lib.ListN.{length, getD}
-use Rattle.fixed.specs.Loops.{total}
 use Rattle.fixed.proofs.Scans.{total-same}
 use Rattle.layout.proofs.Held.{Holds}
 use Rattle.record.specs.Layout.{plain, weighed}
@@ -22,10 +21,13 @@ module _ (b s : List ℕ) (e : length s ≡ 508) (h : Holds b 0 s) where
   unfolding weighed
   weighed-same = ap (λ (n : ℕ). n % 65535) (total-same _ _ 508 (λ k p. ap (λ (x : ℕ). (508 - k) * x) (at k p)))
 
+small : (n : ℕ) → n % 65535 < 65536
+small n = let big : 0 < 65535 = omega arith in omega (arith, mod-lt n big)
+
 pub plain-small : (s : List ℕ) → plain s < 65536
 unfolding plain
-plain-small s = let big : 0 < 65535 = omega arith in omega (arith, mod-lt (total (λ k. getD s k 0) 508) big)
+plain-small s = small _
 
 pub weighed-small : (s : List ℕ) → weighed s < 65536
 unfolding weighed
-weighed-small s = let big : 0 < 65535 = omega arith in omega (arith, mod-lt (total (λ k. (508 - k) * getD s k 0) 508) big)
+weighed-small s = small _

@@ -1,8 +1,9 @@
 -- Writing and reading, exit by exit.
-use mathlib.Core.Path.{_≡_, refl, _∙_}
+use mathlib.Core.Path.{_≡_, refl, sym, ap, _∙_}
 use mathlib.Core.List.{List}
 use mathlib.Core.Bool.{true, false}
 use Prim.Native.Nat.{ℕ, zero, suc}
+use native.Mathlib.Omega.{arith}
 use borrow.Author.Tests.{eq-eqb, ne-eqb}
 use lib.ListN.{length}
 use Rattle.record.specs.Layout.{blockOf, checked}
@@ -20,6 +21,26 @@ replied (suc n) h = refl
 pub refused : (n : ℕ) (r : Record) → (n ≡ 0 → ⊥) → record { reply = Refused n; found = nothing } ≡ gives n r
 refused zero r h = absurd (h refl)
 refused (suc n) r h = refl
+
+-- and back: what a reply says of its number
+pub done-zero : (n : ℕ) → Done ≡ replyOf n → n ≡ 0
+done-zero zero e = refl
+done-zero (suc n) e = cc
+
+pub refused-number : (n m : ℕ) → Refused m ≡ replyOf n → (n ≡ m) × (n ≡ 0 → ⊥)
+refused-number zero m e = let z : _≡_ {A = ℕ} 0 1 = cc in absurd (omega arith)
+refused-number (suc n) m e = (cc, λ z. omega arith)
+
+-- the same of a reply with a record
+gives-reply : (n : ℕ) (r : Record) {a : ReadReply} → a ≡ gives n r → a .reply ≡ replyOf n
+gives-reply zero r e = ap (λ (x : ReadReply). x .reply) e
+gives-reply (suc n) r e = ap (λ (x : ReadReply). x .reply) e
+
+pub gave-done : (n : ℕ) (r : Record) {a : ReadReply} → a ≡ gives n r → a .reply ≡ Done → (n ≡ 0) × (a .found ≡ r)
+gave-done n r e h = let z : n ≡ 0 = done-zero n (sym h ∙ gives-reply n r e) in (z, ap (λ (x : ReadReply). x .found) (rw z at e))
+
+pub gave-refused : (n m : ℕ) (r : Record) {a : ReadReply} → a ≡ gives n r → a .reply ≡ Refused m → (n ≡ m) × (n ≡ 0 → ⊥)
+gave-refused n m r e h = refused-number n m (sym h ∙ gives-reply n r e)
 
 -- ---- write
 

@@ -2,7 +2,7 @@
 use mathlib.Core.Path.{_≡_, refl, sym, ap, _∙_}
 use mathlib.Core.List.{List}
 use mathlib.Core.Bool.{Bool, true, false, cond}
-use Prim.Native.Nat.{ℕ, zero, suc}
+use Prim.Native.Nat.{ℕ}
 use native.Mathlib.Omega.{arith}
 use borrow.Author.Tests.{eqb-true}
 use lib.ListN.{length}
@@ -15,9 +15,9 @@ use Rattle.record.specs.Fits.{Fits}
 use Rattle.record.specs.declared.types.Record.{Record}
 use Rattle.block.specs.declared.types.Reply.the-variants.{Done}
 use Rattle.block.specs.declared.types.ReadReply.{ReadReply}
-use Rattle.block.specs.Whole.{writeOut, gives, readNumber, readOf, Block}
+use Rattle.block.specs.Whole.{writeOut, readNumber, readOf, Block}
 use Rattle.block.proofs.Blocks.{Read, fits-at, block-at, read-at}
-use Rattle.block.proofs.Exits.{number-fault, write-done, read-done, read-fault}
+use Rattle.block.proofs.Exits.{gave-done, number-fault, write-done, read-done, read-fault}
 
 -- a test that decides between two answers passed, where the answer is not that of its failing
 was : {A : Type 0} (t : Bool) (a b r : A) → cond t a b ≡ r → (b ≡ r → ⊥) → t ≡ true
@@ -45,14 +45,10 @@ accepted b e =
     let k : known b ≡ true = was _ _ 3 0 e₂ (λ h. omega arith) in
     record { long = eqb-true _ _ l; checks = c; knows = k; faultless = rw k at e₂ }
 
-done-number : (n : ℕ) (r : Record) → gives n r .reply ≡ Done → n ≡ 0
-done-number zero r e = refl
-done-number (suc n) r e = cc
-
 -- reading replies Done where it found no number to refuse with
 pub number-of-done : (b : List ℕ) → readOf b .reply ≡ Done → readNumber b ≡ 0
 unfolding readOf
-number-of-done b e = done-number (readNumber b) (recordAt b) e
+number-of-done b e = gave-done (readNumber b) (recordAt b) refl e .0
 
 pub done-of-number : (b : List ℕ) → readNumber b ≡ 0 → readOf b ≡ record { reply = Done; found = recordAt b }
 done-of-number b e = sym (read-done b (recordAt b) e refl refl)

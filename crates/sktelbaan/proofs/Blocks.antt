@@ -1,6 +1,6 @@
 -- What the two functions on one block come to, from what `write` and `read` promise.
 use mathlib.Core.Path.{_≡_, refl, sym, ap, _∙_}
-use mathlib.Core.Bool.{Bool, true, false, cond}
+use mathlib.Core.Bool.{true, false, cond}
 use mathlib.Core.List.{List}
 use Prim.Native.Nat.{ℕ, zero, suc}
 use native.Mathlib.Omega.{arith}
@@ -10,12 +10,12 @@ use lib.IntN.{ℤ}
 use lib.ListN.{length}
 use Rattle.record.specs.Layout.{blockOf}
 use Rattle.record.specs.Reading.{recordAt}
-use Rattle.record.specs.Rules.{faultOf}
 use Rattle.record.specs.declared.types.Record.{Record}
 use Rattle.block.specs.declared.types.Reply.{Reply}
 use Rattle.block.specs.declared.types.Reply.the-variants.{Done, Refused}
 use Rattle.block.specs.declared.types.ReadReply.{ReadReply}
-use Rattle.block.specs.Whole.{replyOf, writeNumber, writeOut, gives, readNumber, readOf}
+use Rattle.block.specs.Whole.{replyOf, writeNumber, writeOut, readNumber, readOf}
+use Rattle.block.proofs.Exits.{gave-done, gave-refused}
 use Rattle.sktelbaan.specs.Replies.{inHalves}
 use Rattle.sktelbaan.specs.Records.{fitting, recordOf, numbersOf, doneOf, putNumber, putBlock, gotNumbers, gotBytes}
 
@@ -51,14 +51,6 @@ module _ (v : List ℤ) (s d : List ℕ) where
         q ∙ ap doneOf (e ∙ ap (λ (y : Record). replyOf (writeNumber y d)) k) ∙ done-number _ ∙ ap (λ (m : ℕ). inHalves m 0) (sym p),
         w ∙ ap (λ (y : Record). writeOut y d) k ∙ ap (λ (m : ℕ). cond (eqb m 0) (blockOf (recordOf v s)) d) (sym p),
       )
-
-gave-done : (n : ℕ) (r : Record) {a : ReadReply} → a ≡ gives n r → a .reply ≡ Done → (n ≡ 0) × (a .found ≡ r)
-gave-done zero r e h = (refl, ap (λ (x : ReadReply). x .found) e)
-gave-done (suc n) r e h = let z : Refused (suc n) ≡ Done = sym (ap (λ (x : ReadReply). x .reply) e) ∙ h in let y : _≡_ {A = ℕ} 0 1 = cc in absurd (omega arith)
-
-gave-refused : (n m : ℕ) (r : Record) {a : ReadReply} → a ≡ gives n r → a .reply ≡ Refused m → (n ≡ m) × (n ≡ 0 → ⊥)
-gave-refused zero m r e h = let z : Done ≡ Refused m = sym (ap (λ (x : ReadReply). x .reply) e) ∙ h in let y : _≡_ {A = ℕ} 0 1 = cc in absurd (omega arith)
-gave-refused (suc n) m r e h = let z : Refused (suc n) ≡ Refused m = sym (ap (λ (x : ReadReply). x .reply) e) ∙ h in (cc, λ y. omega arith)
 
 module _ (b : List ℕ) (v : List ℤ) (s : List ℕ) (a : ReadReply) (e : a ≡ readOf b) where
   pub got-done : a .reply ≡ Done → {r : ℕ} → r ≡ inHalves 0 0 → {w : List ℤ} → w ≡ numbersOf (a .found)

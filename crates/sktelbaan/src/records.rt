@@ -1,7 +1,7 @@
 // The record of what C has of it: 20 numbers and 504 bytes.
 ghost use mathlib.Core.Path.{_≡_};
 ghost use Rattle.layout.specs.Field.{padded};
-ghost use Rattle.sktelbaan.specs.Records.{small as smallIn, roomy, fitting, oneOf, twoOf, tripleOf, rangesOf, fourOf, grayOf, rgbOf, labOf, inkOf, bodyOf, recordOf};
+ghost use Rattle.sktelbaan.specs.Records.{roomy, fitting, oneOf, twoOf, tripleOf, rangesOf, fourOf, grayOf, rgbOf, labOf, inkOf, bodyOf, recordOf};
 use fixed::small_at;
 use fixed::value_at;
 use record::Body;
