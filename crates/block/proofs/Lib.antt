@@ -5,4 +5,3 @@ pub mod Blocks
 pub mod Exits
 pub mod RoundTrips
 pub mod Carried
-pub mod Vectors

@@ -10,9 +10,9 @@ use Rattle.fixed.specs.Values.{indexOf}
 use Rattle.layout.specs.Field.{padded}
 use Rattle.record.specs.Layout.{headOf, plain, weighed, blockOf}
 use Rattle.cie.proofs.Facts.{at-8, below-8}
-use Rattle.block.proofs.Vectors.{free-check, gray-check}
 use Rattle.page.proofs.Empty.{zero-accepted, zero-count}
 use Rattle.paper.specs.Paper.{Paper, free5, gray0}
+use Rattle.paper.proofs.Vectors.{free-check, gray-check}
 use Rattle.paper.proofs.Labs.{lab-100, lab-0}
 use Rattle.paper.proofs.Grays.{gray-1, gray-minus-3}
 use Rattle.paper.proofs.Tints.{tint-1, tint-0}

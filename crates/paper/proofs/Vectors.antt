@@ -1,30 +1,12 @@
 -- The worked checks of document 01: free block 5 has check 5 and 2525; CalGray block 0, white 0.9505 1 1.089, black 0, gamma 1, has check 1066 and 3030. Both are accepted.
 use mathlib.Core.Path.{_≡_, refl}
-use lib.ListN.{replicate}
-use lib.IntN.{pos}
 use Rattle.fixed.specs.Bytes.{twoBytes, fourBytes}
 use Rattle.fixed.specs.Loops.{total, allFrom, zeroBetween}
 use Rattle.layout.specs.Field.{padded}
 use Rattle.record.specs.Layout.{headOf, plain, weighed}
 use Rattle.record.specs.Rules.{faultOf, shaped, named, lawful, supported, refers, whitePoint, blackPoint}
 use Rattle.fixed.specs.Numbers.{gammaSupported}
-use Rattle.record.specs.declared.types.Body.the-variants.{Free, CalGray}
-use Rattle.record.specs.declared.types.Record.{Record}
-
-abbrev pub free5 : Record
-free5 = record { own = 5; body = Free; bytes = replicate 504 0 }
-
-abbrev pub gray0 : Record
-gray0 =
-    record {
-      own = 0;
-      body = CalGray (record {
-        white = record { x = pos 950500; y = pos 1000000; z = pos 1089000 };
-        black = record { x = pos 0; y = pos 0; z = pos 0 };
-        gamma = pos 1000000;
-      });
-      bytes = replicate 504 0;
-    }
+use Rattle.paper.specs.Paper.{free5, gray0}
 
 pub free-check : (plain (headOf free5) ≡ 5) × (weighed (headOf free5) ≡ 2525)
 unfolding headOf plain weighed total twoBytes fourBytes padded
