@@ -11,6 +11,9 @@ use record::Lab;
 use record::Separation;
 use record::Triple;
 
+// Three numbers that a kind does not use.
+const NONE: Triple = Triple { x: 0, y: 0, z: 0 };
+
 fn triple(x: i32, y: i32, z: i32) -> Triple
     ensures { λ r. ⌜ r ≡ record { x = x; y = y; z = z } ⌝ }
 {
@@ -60,8 +63,7 @@ fn gray_numbers(own: u16, g: CalGray) -> [i32; 20]
     let white = g.white;
     let black = g.black;
     let gamma = triple(g.gamma, 0, 0);
-    let none = triple(0, 0, 0);
-    laid(own, 1, white, black, gamma, none, none, none)
+    laid(own, 1, white, black, gamma, NONE, NONE, NONE)
 }
 
 fn rgb_numbers(own: u16, g: CalRgb) -> [i32; 20]
@@ -84,16 +86,14 @@ fn lab_numbers(own: u16, g: Lab) -> [i32; 20]
     let q = g.range;
     let first = triple(q.amin, q.amax, q.bmin);
     let last = triple(q.bmax, 0, 0);
-    let none = triple(0, 0, 0);
-    laid(own, 3, white, black, first, last, none, none)
+    laid(own, 3, white, black, first, last, NONE, NONE)
 }
 
 fn indexed_numbers(own: u16, base: u16, hival: u16) -> [i32; 20]
     ensures { λ r. ⌜ r ≡ headed own (Body.Indexed base hival) ⌝ }
 {
     let first = triple(base as i32, hival as i32, 0);
-    let none = triple(0, 0, 0);
-    laid(own, 4, first, none, none, none, none, none)
+    laid(own, 4, first, NONE, NONE, NONE, NONE, NONE)
 }
 
 fn ink_numbers(own: u16, p: Separation) -> [i32; 20]
@@ -105,16 +105,14 @@ fn ink_numbers(own: u16, p: Separation) -> [i32; 20]
     let second = triple(c.a, c.b, c.c);
     let third = triple(c.d, d.a, d.b);
     let last = triple(d.c, d.d, 0);
-    let none = triple(0, 0, 0);
-    laid(own, 5, first, second, third, last, none, none)
+    laid(own, 5, first, second, third, last, NONE, NONE)
 }
 
 // A body without numbers of its own.
 fn bare_numbers(own: u16, kind: i32) -> [i32; 20]
     ensures { λ r. ⌜ r ≡ pos own ∷ kind ∷ replicate 18 (pos 0) ⌝ }
 {
-    let none = triple(0, 0, 0);
-    laid(own, kind, none, none, none, none, none, none)
+    laid(own, kind, NONE, NONE, NONE, NONE, NONE, NONE)
 }
 
 // The numbers of a record of that number and body.

@@ -5,14 +5,11 @@ use borrow.Author.Needs.{needs}
 use Rattle.sktelbaan.proofs.numbers.bare_numbers.Statement.{statement}
 use Rattle.sktelbaan.proofs.numbers.bare_numbers.Tie as tie
 
-triple-requires : tie.Need-triple-requires
-triple-requires c κs = search needs
-
 laid-requires : tie.Need-laid-requires
 laid-requires c κs = search needs
 
 returns : tie.Need-returns
-returns c = c .laid .ensures ∙ simp (c .before .triple .ensures, back! (c .before .before .fits .kind))
+returns c = c .laid .ensures ∙ simp (back! (c .before .fits .kind))
 
 pub bare-numbers-spec : {M : Type 1} → statement M
-bare-numbers-spec = tie.close (tie.spec triple-requires laid-requires returns)
+bare-numbers-spec = tie.close (tie.spec laid-requires returns)

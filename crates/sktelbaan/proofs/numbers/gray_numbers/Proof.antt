@@ -8,14 +8,11 @@ use Rattle.sktelbaan.proofs.numbers.gray_numbers.Tie as tie
 triple-requires : tie.Need-triple-requires
 triple-requires c κs = search needs
 
-triple-requires-2 : tie.Need-triple-requires-2
-triple-requires-2 c κs = search needs
-
 laid-requires : tie.Need-laid-requires
 laid-requires c κs = search needs
 
 returns : tie.Need-returns
-returns c = c .laid .ensures ∙ simp (c .before .before .triple .ensures, c .before .triple2 .ensures, came (c .before .before .before .before .before .before .args .g .gamma) (c .before .before .before .struct-told .given .1 .1 .0 .1))
+returns c = c .laid .ensures ∙ simp (c .before .triple .ensures, came (c .before .before .before .before .before .args .g .gamma) (c .before .before .struct-told .given .1 .1 .0 .1))
 
 pub gray-numbers-spec : {M : Type 1} → statement M
-gray-numbers-spec = tie.close (tie.spec triple-requires triple-requires-2 laid-requires returns)
+gray-numbers-spec = tie.close (tie.spec triple-requires laid-requires returns)

@@ -16,16 +16,12 @@ cast-triple-2 c = search needs
 triple-requires : tie.Need-triple-requires
 triple-requires c κs = search needs
 
-triple-requires-2 : tie.Need-triple-requires-2
-triple-requires-2 c κs = search needs
-
 laid-requires : tie.Need-laid-requires
 laid-requires c κs = search needs
 
 returns : tie.Need-returns
-returns c = c .laid .ensures ∙ simp (c .before .before .triple .ensures, c .before .triple2 .ensures, toZ-pos w32 (c .before .before .before .args .base) (omega arith), toZ-pos w32 (c .before .before .before .args .hival) (omega arith))
+returns c = c .laid .ensures ∙ simp (c .before .triple .ensures, toZ-pos w32 (c .before .before .args .base) (omega arith), toZ-pos w32 (c .before .before .args .hival) (omega arith))
 
 pub indexed-numbers-spec : {M : Type 1} → statement M
 indexed-numbers-spec =
-    tie.close
-    (tie.spec cast-triple cast-triple-2 triple-requires triple-requires-2 laid-requires returns)
+    tie.close (tie.spec cast-triple cast-triple-2 triple-requires laid-requires returns)

@@ -29,25 +29,21 @@ triple-requires-3 c κs = search needs
 triple-requires-4 : tie.Need-triple-requires-4
 triple-requires-4 c κs = search needs
 
-triple-requires-5 : tie.Need-triple-requires-5
-triple-requires-5 c κs = search needs
-
 laid-requires : tie.Need-laid-requires
 laid-requires c κs = search needs
 
 returns : tie.Need-returns
 returns c =
-    let p = c .before .before .before .before .before .before .before .before .before .before .before .before .before .before .before .before .before .before .before .args .p in
-    let k = c .before .before .before .before .before .before .before .before .before .before .before .before .before .before .before .before .struct-known .given in
-    let t = c .before .before .before .before .before .before .before .before .before .before .before .before .struct-told .given in
-    let u = c .before .before .before .before .before .before .before .struct-told5 .given in
+    let p = c .before .before .before .before .before .before .before .before .before .before .before .before .before .before .before .before .before .before .args .p in
+    let k = c .before .before .before .before .before .before .before .before .before .before .before .before .before .before .before .struct-known .given in
+    let t = c .before .before .before .before .before .before .before .before .before .before .before .struct-told .given in
+    let u = c .before .before .before .before .before .before .struct-told5 .given in
     c .laid .ensures
     ∙ simp (
-      c .before .before .before .before .before .before .before .before .before .before .before .before .before .triple .ensures,
-      c .before .before .before .before .before .before .before .before .before .triple2 .ensures,
-      c .before .before .before .before .before .triple3 .ensures,
-      c .before .before .triple4 .ensures,
-      c .before .triple5 .ensures,
+      c .before .before .before .before .before .before .before .before .before .before .before .before .triple .ensures,
+      c .before .before .before .before .before .before .before .before .triple2 .ensures,
+      c .before .before .before .before .triple3 .ensures,
+      c .before .triple4 .ensures,
       toZ-pos w32 (p .alternate) (omega (arith, k)),
       toZ-pos w32 (p .exponent) (omega (arith, k)),
       toZ-pos w32 (p .«name_len») (omega (arith, k)),
@@ -72,6 +68,5 @@ ink-numbers-spec =
     triple-requires-2
     triple-requires-3
     triple-requires-4
-    triple-requires-5
     laid-requires
     returns)

@@ -11,21 +11,17 @@ triple-requires c κs = search needs
 triple-requires-2 : tie.Need-triple-requires-2
 triple-requires-2 c κs = search needs
 
-triple-requires-3 : tie.Need-triple-requires-3
-triple-requires-3 c κs = search needs
-
 laid-requires : tie.Need-laid-requires
 laid-requires c κs = search needs
 
 returns : tie.Need-returns
 returns c =
-    let q = c .before .before .before .before .before .before .before .before .before .before .before .args .g .range in
-    let t = c .before .before .before .before .before .before .before .struct-told .given in
+    let q = c .before .before .before .before .before .before .before .before .before .before .args .g .range in
+    let t = c .before .before .before .before .before .before .struct-told .given in
     c .laid .ensures
     ∙ simp (
-      c .before .before .before .before .triple .ensures,
-      c .before .before .triple2 .ensures,
-      c .before .triple3 .ensures,
+      c .before .before .before .triple .ensures,
+      c .before .triple2 .ensures,
       came (q .amin) (t .0 .1),
       came (q .amax) (t .1 .0 .1),
       came (q .bmin) (t .1 .1 .0 .1),
@@ -33,5 +29,4 @@ returns c =
     )
 
 pub lab-numbers-spec : {M : Type 1} → statement M
-lab-numbers-spec =
-    tie.close (tie.spec triple-requires triple-requires-2 triple-requires-3 laid-requires returns)
+lab-numbers-spec = tie.close (tie.spec triple-requires triple-requires-2 laid-requires returns)
