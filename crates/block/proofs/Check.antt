@@ -5,7 +5,7 @@ use Prim.Native.Nat.{ℕ, _+_, _-_, _*_, _%_, _<_}
 use native.Mathlib.Nat.{mod-lt}
 use native.Mathlib.Omega.{arith}
 use lib.ListN.{length, getD}
-use Rattle.fixed.proofs.Scans.{total-same}
+use Rattle.fixed.proofs.Totals.{total-same}
 use Rattle.layout.proofs.Held.{Holds}
 use Rattle.record.specs.Layout.{plain, weighed}
 

@@ -15,12 +15,7 @@ use Rattle.block.specs.declared.types.Reply.{Reply}
 use Rattle.block.specs.declared.types.Reply.the-variants.{Done, Refused}
 use Rattle.block.specs.declared.types.ReadReply.{ReadReply}
 
--- what each case of a reply is in the document's table: the number of a refusal, or none of them, 0
-abbrev pub numberOf : Reply → ℕ
-numberOf Done = 0
-numberOf (Refused n) = n
-
--- and the reply for a number
+-- what each case of a reply is in the document's table: `Done` where there is no refusal, and a refusal by its number
 abbrev pub replyOf : ℕ → Reply
 replyOf zero = Done
 replyOf (suc n) = Refused (suc n)

@@ -1,14 +1,13 @@
 -- Facts of colours that document 01 states, from the definitions alone.
 use mathlib.Core.Path.{_≡_, refl, sym, ap, _∙_, subst}
-use mathlib.Core.Bool.{Bool, true, false, true≢false}
-use Prim.Native.Nat.{ℕ, zero, suc, _+_, _*_, _^_, _≤_, _<_}
-use native.Mathlib.Nat.{mul-one, mul-comm, mul-assoc, mul-zero, zero-mul, mul-pos, le-trans, mul-le-mul-right}
+use mathlib.Core.Bool.{true, false, true≢false}
+use Prim.Native.Nat.{ℕ, zero, suc, _*_, _^_, _≤_, _<_}
+use native.Mathlib.Nat.{mul-comm, mul-assoc, mul-zero, zero-mul, mul-pos}
 use native.Mathlib.Omega.{arith}
-use lib.Dec.{T, lit<, lit≤}
+use lib.Dec.{T, lit<}
 use lib.IntN.{ℤ, pos, negsuc}
-use lib.Signed.{leZ}
-use lib.Ieee.{Float, nan, inf, fin, Format, binary64, mul, div, ofInt, ofBits, fits, up, down, round, le}
-use lib.Ieee.Fits.{mul-fits, div-fits, down-pos}
+use lib.Ieee.{Float, nan, inf, fin, binary64, mul, div, ofInt, ofBits, fits, up, down, round, le}
+use lib.Ieee.Fits.{div-fits, down-pos}
 use lib.Ieee.Exact.{HasValue}
 use lib.Ieee.Back.{round-whole}
 use lib.Ieee.Scale.{round-same}
@@ -17,7 +16,7 @@ use lib.Ieee.Positive.{positive, between}
 use Rattle.cie.specs.declared.GrayClosing.{GrayClosing}
 use Rattle.cie.specs.declared.LabClosing.{LabClosing}
 use Rattle.fixed.specs.Numbers.{float, million, limited}
-use Rattle.cie.specs.Steps.{whole, one, unitsOf, decoded, whiteOf, grayOf, labP, labN, labOf, first, second, third, share, cubed}
+use Rattle.cie.specs.Steps.{whole, one, unitsOf, decoded, whiteOf, grayOf, labP, labN, first, second, third, share, cubed}
 use Rattle.cie.specs.Closings.{calGrayOf, calLabOf}
 use Rattle.cie.proofs.One.{unit, mul-1}
 
@@ -25,7 +24,7 @@ use Rattle.cie.proofs.One.{unit, mul-1}
 abbrev pub ratio : ℤ → ℕ → Float
 ratio n d = div binary64 (ofInt binary64 n) (whole d)
 
--- 1.0 is the float of 1000000 millionths, and 1000000.0 the float of 1000000
+-- 1.0 is the float of 1000000 millionths
 pub one-is : one ≡ unit
 unfolding ofBits
 one-is = refl
@@ -33,10 +32,6 @@ one-is = refl
 pub one-float : float (pos 1000000) ≡ one
 unfolding ofBits ofInt div
 one-float = refl
-
-pub million-is : million ≡ whole 1000000
-unfolding ofBits ofInt
-million-is = refl
 
 unit-fits : T (fits binary64 unit)
 unfolding fits
@@ -176,8 +171,3 @@ at-8 = (refl, refl, refl)
 pub below-8 : (first (labP (pos 7999999) (pos 0)) ≡ ratio (pos 107999986500) 12194500000000) × (second (pos 7999999) ≡ ratio (pos 863999892) 97556000000) × (third (labN (pos 7999999) (pos 0)) ≡ ratio (pos 43199994600) 4877800000000)
 unfolding first second third share
 below-8 = (refl, refl, refl)
-
--- ---- Lab: at L* = 8, a* = -1 the first is not a cube, though L* is not below 8
-pub beside-8 : first (labP (pos 8000000) (negsuc 999999)) ≡ ratio (pos 104868000000) 12194500000000
-unfolding first share
-beside-8 = refl

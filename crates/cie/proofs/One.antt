@@ -2,7 +2,7 @@
 -- Two values that fit and are the same fraction with the same sign are one value, by their bits. Assumes nothing.
 use mathlib.Core.Path.{_≡_, refl, sym, ap, _∙_, subst}
 use Prim.Native.Nat.{ℕ, zero, suc, _+_, _-_, _*_, _/_, _%_, _^_, _≤_, _<_}
-use native.Mathlib.Nat.{mul-assoc, mul-comm, mul-one, one-mul, zero-mul, add-comm, lt-of-lt-of-le, lt-of-not-le, le-of-suc-le-suc, mul-right-comm, not-le-of-lt}
+use native.Mathlib.Nat.{mul-assoc, mul-one, zero-mul, add-comm, lt-of-lt-of-le, lt-of-not-le, le-of-suc-le-suc, mul-right-comm, not-le-of-lt}
 use native.Mathlib.Omega.{arith}
 use mathlib.Core.Bool.{Bool, true, false, cond, _&&_}
 use lib.Dec.{T, ltb, leb, eqb, ltb→lt, leb→le}

@@ -1,6 +1,5 @@
 // The closing steps: from the values, as they stand, to an answer.
 ghost use mathlib.Core.Path.{_≡_};
-ghost use Rattle.fixed.specs.Values.{value};
 ghost use Rattle.cie.specs.Answers.{meaning};
 ghost use Rattle.cie.specs.Closings.{calGrayOf, calRgbOf, calLabOf, closed};
 use crate::Answer;

@@ -2,7 +2,7 @@
 use mathlib.Core.Path.{_≡_, refl, sym, _∙_}
 use mathlib.Core.Bool.{Bool, true, false, _&&_, _||_, true≢false, cond}
 use Prim.Native.Nat.{ℕ, _≤_, _<_}
-use borrow.Author.Tests.{eq-eqb, ne-eqb, lt-ltb, le-ltb, le-leb, lt-leb}
+use borrow.Author.Tests.{eq-eqb, ne-eqb, lt-ltb, le-ltb, le-leb}
 use lib.Dec.{eqb, ltb, leb}
 
 -- both sides of a test that passed
@@ -58,6 +58,3 @@ module _ {A : Type 0} where
 
   pub le-yes : (y n : ℕ) (a b r : A) {x : ℕ} → x ≡ y → x ≤ n → r ≡ a → r ≡ cond (leb y n) a b
   le-yes y n a b r e h q = is-yes _ a b r refl (le-leb y n (rw e at h)) q
-
-  pub le-no : (y n : ℕ) (a b r : A) {x : ℕ} → x ≡ y → n < x → r ≡ b → r ≡ cond (leb y n) a b
-  le-no y n a b r e h q = is-no _ a b r refl (lt-leb y n (rw e at h)) q

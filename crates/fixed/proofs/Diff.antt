@@ -1,6 +1,6 @@
 -- `Diff z a b` says z = a − b, for naturals a and b, as an equation of naturals, which omega reads.
 -- `up z` and `down z` are z's parts above and below 0: z = up z − down z, and one of them is 0.
-use mathlib.Core.Path.{_≡_, refl, sym, _∙_, ap, subst}
+use mathlib.Core.Path.{_≡_, refl, sym, ap}
 use mathlib.Core.Bool.{Bool, true, false, not, cond}
 use Prim.Native.Nat.{ℕ, zero, suc, _+_, _*_, _-_, _/_, _%_, _<_, _≤_, _^_, zero-le}
 use native.Mathlib.Nat as NatL
@@ -9,7 +9,7 @@ use native.Mathlib.Omega.{arith}
 use lib.Dec.{T, ltb, ltb→lt, nltb→le}
 use borrow.Author.Tests.{ltb-true, ltb-false, lt-ltb, le-ltb}
 use lib.IntN.{ℤ, pos, negsuc, negℤ, subℕ, _+ℤ_, _-ℤ_, _*ℤ_}
-use lib.Signed.{ltZ, shrZ}
+use lib.Signed.{ltZ}
 use lib.Arith.{digits-div}
 use mir.Syntax.{Width, w32, w64}
 use mir.Val.{SFits, hbits}

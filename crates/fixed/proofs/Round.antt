@@ -1,12 +1,11 @@
 -- The nearest in 0..h to a number that is n − k, by where n lies.
-use mathlib.Core.Path.{_≡_, refl, ap, _∙_}
-use Prim.Native.Nat.{ℕ, zero, suc, _+_, _*_, _-_, _/_, _<_, _≤_}
+use mathlib.Core.Path.{_≡_, ap, _∙_}
+use Prim.Native.Nat.{ℕ, _+_, _*_, _-_, _/_, _<_, _≤_}
 use native.Mathlib.Nat.{mul-div-mul-left}
 use native.Mathlib.Decide.{decLt}
 use native.Mathlib.Omega.{arith}
-use borrow.Author.Tests.{lt-ltb, le-ltb}
-use lib.IntN.{ℤ, pos, negsuc}
-use Rattle.fixed.specs.Numbers.{limited, halfUp}
+use lib.IntN.{ℤ, pos}
+use Rattle.fixed.specs.Numbers.{limited}
 use Rattle.fixed.proofs.Diff.{Diff, of-pos, lt-yes, lt-no, pos-at}
 
 module _ (h : ℕ) {z : ℤ} {n k : ℕ} (e : Diff z n k) where

@@ -7,18 +7,8 @@ use native.Mathlib.Numerals.{add-one}
 use native.Mathlib.Omega.{arith}
 use borrow.Author.Tests.{eqb-true, eq-eqb, ne-eqb}
 use lib.Dec.{eqb}
-use Rattle.fixed.specs.Loops.{total, allFrom, allBetween, firstFrom}
+use Rattle.fixed.specs.Loops.{allFrom, allBetween, firstFrom}
 use Rattle.fixed.proofs.Decide.{cond-ind}
-
--- a sum
-pub total-step : (f : ℕ → ℕ) (n acc x : ℕ) → acc ≡ total f n → x ≡ f n → acc + x ≡ total f (n + 1)
-unfolding total
-total-step f n acc x p q = rw (add-one, p, q)
-
-pub total-same : (f g : ℕ → ℕ) (n : ℕ) → ((k : ℕ) → k < n → f k ≡ g k) → total f n ≡ total g n
-unfolding total
-total-same f g zero h = refl
-total-same f g (suc n) h = rw (total-same f g n (λ k p. h k (omega arith)), h n (omega arith))
 
 -- The loop that looks for the first fault: `Clean none refused f n i` is its invariant, that blocks below i have none.
 module _ {A : Type 0} (none : A) (refused : ℕ → ℕ → A) (f : ℕ → ℕ) (n : ℕ) where

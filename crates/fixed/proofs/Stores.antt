@@ -1,12 +1,12 @@
 -- Runs of stores. No bound is asked: a store past the end does nothing.
-use mathlib.Core.Path.{_≡_, refl, sym, ap, _∙_}
+use mathlib.Core.Path.{_≡_, ap, _∙_}
 use mathlib.Core.List.{List, [], _∷_, _++_}
-use Prim.Native.Nat.{ℕ, suc, _+_, _/_, _%_, _<_, _≤_}
+use Prim.Native.Nat.{ℕ, suc, _+_, _/_, _%_, _≤_}
 use native.Mathlib.Nat.{add-zero}
 use native.Mathlib.Numerals.{add-one, towards-suc}
 use native.Mathlib.Omega.{arith}
-use lib.ListN.{length, set, take, drop, getD}
-use lib.Seq.{sets, sets-eq, take-suc, length-take-le}
+use lib.ListN.{length, set, drop}
+use lib.Seq.{sets, sets-eq}
 use Rattle.fixed.specs.Bytes.{twoBytes, fourBytes}
 
 -- the bytes of a number, stored one by one
@@ -25,15 +25,6 @@ module _ {A : Type 0} where
   sets-append (w ∷ ws) d at vs =
       let e : at + suc (length ws) ≡ suc at + length ws = omega arith in
       ap (λ (i : ℕ). sets (sets (set d at w) (suc at) ws) i vs) e ∙ sets-append ws (set d at w) (suc at) vs
-
-  -- one more element of a list that is copied
-  pub sets-more : (d : List A) (at : ℕ) (s : List A) (i : ℕ) (z : A) → i < length s → sets d at (take (i + 1) s) ≡ set (sets d at (take i s)) (at + i) (getD s i z)
-  sets-more d at s i z h =
-      let le : i ≤ length s = omega arith in
-      ap (λ (k : ℕ). sets d at (take k s)) (add-one i) ∙
-      (ap (sets d at) (take-suc s i z h) ∙
-      (sym (sets-append (take i s) d at (getD s i z ∷ [])) ∙
-      ap (λ (k : ℕ). set (sets d at (take i s)) (at + k) (getD s i z)) (length-take-le i s le)))
 
   -- a run from the front of a list that is long enough
   pub sets-front : (ws d : List A) → length ws ≤ length d → sets d 0 ws ≡ ws ++ drop (length ws) d

@@ -1,11 +1,21 @@
--- Sums over the numbers below a bound: parted in two, added and multiplied term by term, and taken column by column.
+-- Sums over the numbers below a bound: one term more, parted in two, added and multiplied term by term, and taken column by column.
 use mathlib.Core.Path.{_≡_, refl, ap, _∙_, sym}
 use Prim.Native.Nat.{ℕ, zero, suc, _+_, _-_, _*_, _<_}
 use native.Mathlib.Nat.{add-zero, mul-zero, mul-suc, mul-add}
 use native.Mathlib.Numerals.{add-one, add-two, add-three, add-four}
 use native.Mathlib.Omega.{arith}
 use Rattle.fixed.specs.Loops.{total}
-use Rattle.fixed.proofs.Scans.{total-same}
+
+-- one term more
+pub total-step : (f : ℕ → ℕ) (n acc x : ℕ) → acc ≡ total f n → x ≡ f n → acc + x ≡ total f (n + 1)
+unfolding total
+total-step f n acc x p q = rw (add-one, p, q)
+
+-- term by term
+pub total-same : (f g : ℕ → ℕ) (n : ℕ) → ((k : ℕ) → k < n → f k ≡ g k) → total f n ≡ total g n
+unfolding total
+total-same f g zero h = refl
+total-same f g (suc n) h = rw (total-same f g n (λ k p. h k (omega arith)), h n (omega arith))
 
 -- a sum of zeros
 pub total-zero : (f : ℕ → ℕ) (n : ℕ) → ((k : ℕ) → k < n → f k ≡ 0) → total f n ≡ 0

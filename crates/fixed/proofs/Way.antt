@@ -1,11 +1,11 @@
 -- What `part_way` computes: the weighted sum of two raised numbers, its bounds, and that its rounded quotient is the rounded point, raised.
 use mathlib.Core.Path.{_≡_, ap}
 use Prim.Native.Nat.{ℕ, _+_, _*_, _-_, _/_, _<_, _≤_, _^_}
-use native.Mathlib.Nat.{mul-le-mul-left, mul-le-mul-right, div-lt-iff-lt-mul}
+use native.Mathlib.Nat.{mul-le-mul-left, div-lt-iff-lt-mul}
 use native.Mathlib.Omega.{arith}
-use lib.IntN.{ℤ, subℕ}
+use lib.IntN.{ℤ}
 use Rattle.fixed.specs.Numbers.{partWay}
-use Rattle.fixed.proofs.Diff.{Diff, add, sub, scale, shift, half-at, sub-at, of-sub}
+use Rattle.fixed.proofs.Diff.{Diff, add, sub, scale, shift, half-at}
 
 module _ (q d a b : ℕ) (w : q ≤ d) (ha : a < 2 ^ 32) (hb : b < 2 ^ 32) where
   part : d ≡ (d - q) + q

@@ -5,7 +5,7 @@ ghost use mathlib.Core.Path.{_≡_};
 ghost use Prim.Native.Nat.{_+_, _%_, _<_, _≤_};
 ghost use lib.ListN.{length};
 ghost use lib.Seq.{sets};
-ghost use Rattle.fixed.specs.Bytes.{blockAt, byteAt, twoAt, fourAt, numberAt, signed, bits, twoBytes, fourBytes, numberBytes};
+ghost use Rattle.fixed.specs.Bytes.{blockAt, byteAt, twoAt, numberAt, signed, bits, twoBytes, fourBytes, numberBytes};
 use crate::rounding::lowered;
 use crate::rounding::raised;
 

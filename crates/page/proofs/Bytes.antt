@@ -9,7 +9,8 @@ use lib.ListN.{take}
 use lib.Seq.{getD-take}
 use Rattle.fixed.specs.Bytes.{blockAt, byteAt, twoAt, numberAt}
 use Rattle.fixed.specs.Loops.{zeroBetween}
-use Rattle.fixed.proofs.Scans.{total-same, all-same}
+use Rattle.fixed.proofs.Scans.{all-same}
+use Rattle.fixed.proofs.Totals.{total-same}
 use Rattle.record.specs.Layout.{namedTo, plain, weighed, checked}
 use Rattle.record.specs.Reading.{kindAt, ownAt, tripleAt, fourAt as fourNumbersAt, grayAt, rgbAt, labAt, separationAt, bodyBy, bodyAt}
 use Rattle.record.specs.Rules.{known, nameShown, formed}

@@ -1,13 +1,12 @@
 -- The two sums of a check, by the columns of a block of 16 rows and 32 columns.
-use mathlib.Core.Path.{_≡_, refl, sym, ap, _∙_}
+use mathlib.Core.Path.{_≡_, sym, ap, _∙_}
 use mathlib.Core.List.{List}
-use Prim.Native.Nat.{ℕ, suc, _+_, _-_, _*_, _<_, _≤_}
+use Prim.Native.Nat.{ℕ, _+_, _-_, _*_, _<_, _≤_}
 use native.Mathlib.Nat.{add-mul, mul-assoc, mul-le-mul}
 use native.Mathlib.Omega.{arith}
 use Rattle.fixed.specs.Bytes.{byteAt}
 use Rattle.fixed.specs.Loops.{total}
-use Rattle.fixed.proofs.Scans.{total-step, total-same}
-use Rattle.fixed.proofs.Totals.{total-zero, total-four, total-plus, total-times, total-columns, total-running}
+use Rattle.fixed.proofs.Totals.{total-step, total-same, total-zero, total-four, total-plus, total-times, total-columns, total-running}
 use Rattle.record.specs.Columns.{downTo, columnSum, columnRunning}
 
 -- ---- A column, row by row

@@ -3,4 +3,3 @@ pub mod Ranges
 pub mod Acts
 pub mod Stepped
 pub mod Runs
-pub mod Cases

@@ -3,7 +3,7 @@ use Prim.Native.Nat.{ℕ, zero, suc, pred, _+_}
 use mathlib.Core.Bool.{cond}
 use mathlib.Core.List.{List, [], _∷_}
 use lib.IntN.{ℤ}
-use lib.Dec.{ltb, leb, eqb}
+use lib.Dec.{ltb, eqb}
 use lib.ListN.{length, drop}
 use Rattle.fixed.specs.Values.{value, smallOf, places, longest, given, limitStep, rowStep, tintStep}
 use Rattle.cie.specs.Answers.{Reply, refusal}
@@ -12,7 +12,6 @@ use Rattle.cie.specs.declared.Closing.{Closing}
 use Rattle.runner.specs.Steps.{fills, stepOf}
 use Rattle.runner.specs.declared.Step.{Step}
 use Rattle.runner.specs.declared.Step.the-variants.{Limit, Row, Tint, Close}
-use Rattle.runner.specs.declared.Read.{Read}
 use Rattle.runner.specs.declared.Read.the-variants.{At, Nothing}
 
 -- what one step comes to: the reply, or the values after it

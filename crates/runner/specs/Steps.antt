@@ -13,7 +13,6 @@ use Rattle.cie.specs.declared.RgbClosing.{RgbClosing}
 use Rattle.cie.specs.declared.LabClosing.{LabClosing}
 use Rattle.cie.specs.declared.Closing.{Closing}
 use Rattle.cie.specs.declared.Closing.the-variants.{Gray, Rgb, Cmyk, CalGray, CalRgb, Lab}
-use Rattle.runner.specs.declared.Step.{Step}
 use Rattle.runner.specs.declared.Step.the-variants.{Limit, Row, Tint, Close}
 use Rattle.runner.specs.declared.Read.{Read}
 use Rattle.runner.specs.declared.Read.the-variants.{At, Nothing}

@@ -50,9 +50,6 @@ module _ (page : List ℕ) (n : ℕ) where
   pub block-indexed : kindAt page n ≡ 4 → n < blocks
   block-indexed e = below 4 (omega arith) e
 
-  pub block-separation : kindAt page n ≡ 5 → n < blocks
-  block-separation e = below 5 (omega arith) e
-
   nothing-rank : rankAt page 0xFFFF ≡ 0
   unfolding rankAt kindAt
   nothing-rank = refl

@@ -1,4 +1,4 @@
-use mathlib.Core.Path.{_≡_, _∙_}
+use mathlib.Core.Path.{_∙_}
 use Rattle.cie.proofs.Decodes.{decodes}
 use Rattle.fixed.proofs.Signs.{came, back! }
 use Rattle.cie.specs.Steps.{whiteOf, grayOf}

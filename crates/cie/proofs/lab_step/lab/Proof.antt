@@ -1,15 +1,14 @@
 -- `cie::lab_step::lab` meets its contract. Each step on whole numbers is answered by its expression (`Exp`), and each float by what `share_of` ensures.
 -- Assumes nothing.
 use mathlib.Core.Path.{_≡_, refl, _∙_}
-use Prim.Native.Nat.{ℕ}
-use lib.IntN.{ℤ, pos, _+ℤ_, _-ℤ_, _*ℤ_}
+use lib.IntN.{ℤ, pos}
 use lib.Ieee.{binary64, ofInt, ofBits}
 use mir.Syntax.{w32}
 use mir.Val.{SFits}
 use mir.Facts.{toZ-ofZ}
 use lib.Signed.{leZ}
-use Rattle.cie.specs.Steps.{first, second, third, labP, labN, share, whole}
-use Rattle.cie.proofs.Exp.{Exp, i32, num, _⊕_, _⊖_, _⊗_, val, fits, is, floats}
+use Rattle.cie.specs.Steps.{first, second, third, share, whole}
+use Rattle.cie.proofs.Exp.{Exp, i32, num, _⊕_, _⊖_, _⊗_, fits, is, floats}
 use Rattle.cie.proofs.lab_step.lab.Statement.{statement}
 use Rattle.cie.proofs.lab_step.lab.Tie as tie
 

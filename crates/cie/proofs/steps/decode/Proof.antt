@@ -3,7 +3,7 @@ use native.Mathlib.Nat.{not-suc-le-zero}
 use lib.Ieee.{Float, binary64, mul}
 use native.Mathlib.Omega.{arith}
 use native.Mathlib.Numerals.{add-one}
-use mathlib.Core.Path.{_≡_, refl, ap, sym, _∙_}
+use mathlib.Core.Path.{_≡_, refl, sym, _∙_}
 use Rattle.cie.specs.Steps.{decoded}
 use Rattle.cie.proofs.steps.decode.Statement.{statement}
 use Rattle.cie.proofs.steps.decode.Tie as tie

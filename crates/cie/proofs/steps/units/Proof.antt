@@ -1,16 +1,13 @@
-use mathlib.Core.Path.{_≡_, refl, subst}
-use mathlib.Core.Bool.{Bool, true, false}
-use Prim.Native.Nat.{ℕ, _/_, _<_, _^_}
+use mathlib.Core.Path.{_≡_, refl}
+use mathlib.Core.Bool.{true}
+use Prim.Native.Nat.{_/_, _<_}
 use native.Mathlib.Omega.{arith}
 use lib.IntN.{ℤ, pos, negsuc, natAbs}
 use lib.Dec.{T}
-use lib.Signed.{mag, ltZ, nonNeg}
-use mir.Syntax.{w32}
-use mir.Val.{Fits}
+use lib.Signed.{ltZ, nonNeg}
 use borrow.Author.Tests.{ltb-true}
 use Rattle.fixed.proofs.Signs.{back!, sign, fit}
 use Rattle.cie.specs.Steps.{unitsOf}
-use borrow.Author.Needs.{needs}
 use Rattle.cie.proofs.steps.units.Statement.{statement}
 use Rattle.cie.proofs.steps.units.Tie as tie
 

@@ -1,5 +1,4 @@
 use mathlib.Core.Path.{_∙_, sym}
-use native.Mathlib.Omega.{arith}
 use Rattle.fixed.proofs.Twos.{read-low, read-high}
 use borrow.Author.Needs.{needs}
 use Rattle.fixed.proofs.bytes.to_signed.Statement.{statement}

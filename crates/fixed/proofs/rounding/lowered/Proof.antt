@@ -2,11 +2,11 @@ use borrow.Author.Needs.{needs}
 use mathlib.Core.Path.{_≡_}
 use Prim.Native.Nat.{ℕ, _+_, _-_, _<_, _^_}
 use native.Mathlib.Omega.{arith}
-use lib.IntN.{ℤ, pos, negsuc, subℕ, _-ℤ_}
+use lib.IntN.{ℤ, pos, subℕ, _-ℤ_}
 use mir.Syntax.{w32, w64}
 use mir.Val.{SFits}
 use mir.ValLaws.{toZ-pos}
-use Rattle.fixed.proofs.Diff.{Diff, up, down, itself, sub, of-pos, shift, fits-at, pos-at, sub-at, up-lt, down-le}
+use Rattle.fixed.proofs.Diff.{Diff, sub, of-pos, fits-at, sub-at}
 use Rattle.fixed.proofs.rounding.lowered.Statement.{statement}
 use Rattle.fixed.proofs.rounding.lowered.Tie as tie
 

@@ -1,4 +1,3 @@
-use borrow.Author.Needs.{needs}
 use mathlib.Core.Path.{_≡_}
 use Prim.Native.Nat.{ℕ, _+_, _-_, _<_, _^_}
 use native.Mathlib.Omega.{arith}
@@ -6,7 +5,7 @@ use lib.IntN.{ℤ, pos, subℕ, _+ℤ_}
 use mir.Syntax.{w32, w64}
 use mir.Val.{SFits}
 use mir.ValLaws.{toZ-ofZ}
-use Rattle.fixed.proofs.Diff.{Diff, up, down, itself, add, of-pos, shift, fits-at, pos-at, sub-at, up-lt, down-le, widened}
+use Rattle.fixed.proofs.Diff.{Diff, up, down, itself, add, of-pos, fits-at, pos-at, sub-at, up-lt, down-le, widened}
 use Rattle.fixed.proofs.rounding.raised.Statement.{statement}
 use Rattle.fixed.proofs.rounding.raised.Tie as tie
 

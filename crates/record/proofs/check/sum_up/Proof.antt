@@ -1,12 +1,11 @@
 -- `sum_up` goes across the columns, and takes the last four bytes off.
-use mathlib.Core.Path.{_≡_, ap, sym, _∙_}
-use Prim.Native.Nat.{ℕ, _+_, _-_, _*_, _%_, _≤_}
+use mathlib.Core.Path.{ap}
+use Prim.Native.Nat.{ℕ, _-_, _*_, _%_}
 use native.Mathlib.Omega.{arith}
-use denote.Ref.{now}
-use lib.ListN.{getD, drop}
+use lib.ListN.{drop}
 use Rattle.fixed.specs.Loops.{total}
 use Rattle.record.specs.Layout.{plain, weighed}
-use Rattle.record.proofs.Sums.{Across, product, across, Settled, settles}
+use Rattle.record.proofs.Sums.{Across, product, across, settles}
 use borrow.Author.Needs.{needs}
 use Rattle.record.proofs.check.sum_up.Statement.{statement}
 use Rattle.record.proofs.check.sum_up.Tie as tie

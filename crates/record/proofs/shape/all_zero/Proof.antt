@@ -1,6 +1,6 @@
 -- `all_zero` gathers whether the bytes below k are zero.
 use mathlib.Core.Path.{ap, sym}
-use Prim.Native.Nat.{ℕ, _+_, _-_, _*_}
+use Prim.Native.Nat.{ℕ, _-_, _*_}
 use denote.Ref.{now}
 use lib.Dec.{eqb}
 use lib.ListN.{getD, drop}

@@ -1,5 +1,4 @@
 -- The tests of the definition, one by one.
-use mathlib.Core.Path.{refl}
 use Rattle.sktelbaan.specs.Records.{fitting}
 use borrow.Author.Needs.{needs}
 use Rattle.sktelbaan.proofs.records.is_fitting.Statement.{statement}

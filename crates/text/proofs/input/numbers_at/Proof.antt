@@ -1,6 +1,4 @@
-use mathlib.Core.Path.{_≡_}
-use Prim.Native.Nat.{_≤_, _<_, _-_}
-use lib.ListN.{length}
+use Prim.Native.Nat.{_≤_, _-_}
 use borrow.Author.Needs.{needs}
 use Rattle.text.proofs.input.numbers_at.Statement.{statement}
 use Rattle.text.proofs.input.numbers_at.Tie as tie
