@@ -2,4 +2,5 @@
 pub mod Ranks
 pub mod Levels
 pub mod ByKind
+pub mod Asked
 pub mod Counts
