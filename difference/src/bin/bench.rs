@@ -221,6 +221,7 @@ mod lcms {
     //! LittleCMS beside the library: the same colours, in doubles.
 
     use super::*;
+    use reference::records::{NINE, WHITE};
 
     extern "C" {
         fn lcms_lab(white: *const f64, lab: *const f64, xyz: *mut f64, count: usize);
