@@ -1,19 +1,8 @@
 //! Records and pages that several tests use.
-#![allow(dead_code)]
+#![allow(dead_code, unused_imports)]
 
-use reference::block::{write_block, Body, Record, BLOCK, BODY};
-
-/// The white point of the paper's examples.
-pub const WHITE: [i32; 3] = [950_500, 1_000_000, 1_089_000];
-
-/// A record without name or palette bytes.
-pub fn record(number: u16, body: Body) -> Record {
-    Record {
-        number,
-        body,
-        bytes: [0; BODY],
-    }
-}
+use reference::block::{write_block, Body, Record, BLOCK};
+pub use reference::records::{palette, record, separation, WHITE};
 
 /// The paper's CalGray: white 0.9505 1 1.089, black 0, and this gamma in millionths.
 pub fn cal_gray(gamma: i32) -> Body {
@@ -46,29 +35,6 @@ pub fn lab(range: [i32; 4]) -> Body {
 /// A Lab with the clause's own range, -100..100.
 pub fn usual_lab() -> Body {
     lab([-100_000_000, 100_000_000, -100_000_000, 100_000_000])
-}
-
-/// A Separation named "Gold".
-pub fn separation(number: u16, alternate: u16, exponent: u8, c0: [i32; 4], c1: [i32; 4]) -> Record {
-    let mut made = record(
-        number,
-        Body::Separation {
-            alternate,
-            exponent,
-            name_length: 4,
-            c0,
-            c1,
-        },
-    );
-    made.bytes[..4].copy_from_slice(b"Gold");
-    made
-}
-
-/// A palette block with these first bytes.
-pub fn palette(number: u16, bytes: &[u8]) -> Record {
-    let mut made = record(number, Body::Palette);
-    made.bytes[..bytes.len()].copy_from_slice(bytes);
-    made
 }
 
 /// The block of a record that is accepted by itself.
