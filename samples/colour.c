@@ -1,11 +1,13 @@
 /* colour PAGE NUMBER COMPONENT...
  *
- * Evaluates a colour of a page, writes the recipe of its space, runs the recipe on the same colour, and prints both answers.
+ * Evaluates a colour of a page, writes the recipe of its space, runs the recipe on the same colour, and prints both answers. It fails on a refusal,
+ * and where the answers differ in a bit.
  * NUMBER is a block's number or a device code, as 0xFF03. Components are in millionths: 1.0 is 1000000.
  */
 #include <errno.h>
 #include <stdio.h>
 #include <stdlib.h>
+#include <string.h>
 
 #include "sktelbaan.h"
 
@@ -44,6 +46,7 @@ int main(int argc, char **argv) {
     enum { MOST = 8 };
     int32_t components[MOST];
     double floats[4] = {0};
+    double again[4] = {0};
     if (argc < 3 || argc > 3 + MOST) {
         fprintf(stderr, "usage: colour PAGE NUMBER COMPONENT...\n");
         return 2;
@@ -60,10 +63,10 @@ int main(int argc, char **argv) {
     for (size_t i = 0; i < count; i++)
         components[i] = (int32_t)whole(argv[3 + i], INT32_MIN, INT32_MAX);
 
-    uint64_t reply = sktelbaan_evaluate(page, length, number, components, count, floats);
-    print("page", reply, floats);
+    uint64_t answer = sktelbaan_evaluate(page, length, number, components, count, floats);
+    print("page", answer, floats);
 
-    reply = sktelbaan_write_recipe(page, length, number, words, SKTELBAAN_LONGEST);
+    uint64_t reply = sktelbaan_write_recipe(page, length, number, words, SKTELBAAN_LONGEST);
     if (sktelbaan_refusal(reply) != 0) {
         print("recipe", reply, floats);
         return 1;
@@ -71,7 +74,8 @@ int main(int argc, char **argv) {
     uint32_t written = sktelbaan_value(reply);
     printf("recipe of %u words\n", (unsigned)written);
 
-    reply = sktelbaan_run(words, written, components, count, floats);
-    print("run", reply, floats);
-    return sktelbaan_refusal(reply) == 0 ? 0 : 1;
+    reply = sktelbaan_run(words, written, components, count, again);
+    print("run", reply, again);
+    int same = reply == answer && memcmp(again, floats, sizeof floats) == 0;
+    return same && sktelbaan_refusal(reply) == 0 ? 0 : 1;
 }

@@ -1,9 +1,13 @@
 //! Pages to try, and what is said of them.
 
 use crate::block::{Record, BLOCK, BODY, DEVICE_CMYK, DEVICE_GRAY, DEVICE_RGB, MOST_BLOCKS};
+use crate::cie::Answer;
+use crate::colour::evaluate;
 use crate::listing::list;
 use crate::numbers::ONE;
+use crate::recipe::recipe_of;
 use crate::records::{cal_gray, cal_rgb, free, indexed_run, lab, page, separation, USUAL};
+use crate::runner::run;
 
 /// A page to try.
 #[derive(Clone, Debug)]
@@ -137,6 +141,79 @@ pub fn all() -> Vec<Sample> {
     ]
 }
 
+/// Colours to try: a sample's name, a number asked for, and components in millionths.
+const COLOURS: &[(&str, u32, &[i32])] = &[
+    ("gray", 0, &[ONE]),
+    ("rgb", 0, &[250_000, 500_000, 750_000]),
+    ("lab", 0, &[50 * ONE, 20 * ONE, -30 * ONE]),
+    ("indexed", 0, &[5 * ONE]),
+    ("separation", 0, &[500_000]),
+    ("large", 0, &[181 * ONE]),
+    ("nested", 0, &[2_500_000]),
+    ("nested", 2, &[ONE]),
+    ("zero", DEVICE_RGB as u32, &[100_000, 200_000, 300_000]),
+];
+
+/// A float as C's `%.17g` prints it.
+fn float_text(v: f64) -> String {
+    if v == 0.0 {
+        return if v.is_sign_negative() { "-0" } else { "0" }.to_string();
+    }
+    let sign = if v < 0.0 { "-" } else { "" };
+    let text = format!("{:.16e}", v.abs());
+    // One digit, a point, sixteen more, then the exponent.
+    let (digits, exponent) = text.split_once('e').unwrap_or((&text, "0"));
+    let exponent: i32 = exponent.parse().unwrap_or(0);
+    let digits = digits.replace('.', "");
+    let digits = digits.trim_end_matches('0');
+    let with_point = |digits: &str, whole: usize| match digits.len() {
+        length if length <= whole => format!("{digits}{}", "0".repeat(whole - length)),
+        _ => format!("{}.{}", &digits[..whole], &digits[whole..]),
+    };
+    match exponent {
+        0..=16 => format!("{sign}{}", with_point(digits, exponent as usize + 1)),
+        -4..=-1 => format!("{sign}0.{}{digits}", "0".repeat(-exponent as usize - 1)),
+        _ => {
+            let mark = if exponent < 0 { '-' } else { '+' };
+            let size = exponent.unsigned_abs();
+            format!("{sign}{}e{mark}{size:02}", with_point(digits, 1))
+        }
+    }
+}
+
+/// An answer as the C program prints it.
+fn answer_text(answer: &Answer) -> String {
+    let (name, floats): (&str, &[f64]) = match answer {
+        Answer::Gray(v) => ("Gray", std::slice::from_ref(v)),
+        Answer::Rgb(v) => ("RGB", v),
+        Answer::Cmyk(v) => ("CMYK", v),
+        Answer::Xyz(v) => ("XYZ", v),
+        Answer::Refused { number, block } => return format!("refused {number} block {block}"),
+    };
+    let floats: Vec<String> = floats.iter().map(|v| float_text(*v)).collect();
+    format!("{name} {}", floats.join(" "))
+}
+
+/// The text that the C program prints for the colours to try, each after the words that it is started with.
+pub fn colours() -> String {
+    let samples = all();
+    let mut text = String::new();
+    for &(name, number, components) in COLOURS {
+        let Some(sample) = samples.iter().find(|sample| sample.name == name) else {
+            continue;
+        };
+        let words: Vec<String> = components.iter().map(i32::to_string).collect();
+        text += &format!("colour {name}.page {number} {}\n", words.join(" "));
+        let answer = evaluate(&sample.page, number, components);
+        text += &format!("page {}\n", answer_text(&answer));
+        if let Ok(recipe) = recipe_of(&sample.page, number) {
+            text += &format!("recipe of {} words\n", recipe.len());
+            text += &format!("run {}\n", answer_text(&run(&recipe, components)));
+        }
+    }
+    text
+}
+
 /// The text that says what each sample is and what the listing program prints for it.
 pub fn readme() -> String {
     let mut text = String::from(
@@ -148,7 +225,8 @@ written by the second implementation:
     cargo run --release --offline --manifest-path reference/Cargo.toml --bin samples -- samples
 
 `colour.c` is a C program that evaluates a colour, writes the space's recipe, runs it and prints both answers. With the library in
-`target/staticlib/` (`rt staticlib sktelbaan` puts it there), `samples/build` compiles it and runs it on some of the pages.
+`target/staticlib/` (`rt staticlib sktelbaan` puts it there), `samples/build` compiles it, runs it on the colours of `colours.txt`, and compares what it
+prints with that text.
 ",
     );
     for Sample { name, about, page } in all() {
@@ -163,4 +241,36 @@ written by the second implementation:
         }
     }
     text
+}
+
+#[cfg(test)]
+mod tests {
+    use super::*;
+
+    #[test]
+    fn floats_are_printed_as_c_prints_them() {
+        for (v, text) in [
+            (0.0, "0"),
+            (-0.0, "-0"),
+            (1.0, "1"),
+            (0.1, "0.10000000000000001"),
+            (-2.5, "-2.5"),
+            (0.00025, "0.00025000000000000001"),
+            (0.00001, "1.0000000000000001e-05"),
+            (1_000_000.0, "1000000"),
+            (1e16, "10000000000000000"),
+            (1e17, "1e+17"),
+            (1.5e300, "1.5000000000000001e+300"),
+        ] {
+            assert_eq!(float_text(v), text);
+        }
+    }
+
+    #[test]
+    fn every_colour_to_try_is_answered() {
+        let text = colours();
+        assert_eq!(text.lines().count(), 4 * COLOURS.len());
+        assert!(!text.contains("refused"));
+        assert!(text.contains("\npage XYZ 0.95050000000000001 1 1.089\n"));
+    }
 }

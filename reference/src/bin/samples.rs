@@ -1,7 +1,7 @@
-//! `samples DIR`: writes the sample pages, their listings and what is said of them into a folder.
+//! `samples DIR`: writes the sample pages, their listings, the colours to try and what is said of them into a folder.
 
 use reference::listing::list;
-use reference::samples::{all, readme};
+use reference::samples::{all, colours, readme};
 use std::path::Path;
 use std::process::ExitCode;
 
@@ -12,6 +12,7 @@ fn write(folder: &Path) -> std::io::Result<()> {
         let listing = folder.join(format!("{}.txt", sample.name));
         std::fs::write(listing, list(&sample.page))?;
     }
+    std::fs::write(folder.join("colours.txt"), colours())?;
     std::fs::write(folder.join("README.md"), readme())
 }
 
