@@ -3,3 +3,4 @@ pub mod Exp
 pub mod One
 pub mod Decodes
 pub mod Facts
+pub mod Closes

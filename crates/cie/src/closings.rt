@@ -1,5 +1,6 @@
 // The closing steps: from the values, as they stand, to an answer.
 ghost use mathlib.Core.Path.{_≡_};
+ghost use mathlib.Core.List.{[], _∷_};
 ghost use Rattle.cie.specs.Answers.{meaning};
 ghost use Rattle.cie.specs.Closings.{calGrayOf, calRgbOf, calLabOf, closed};
 use crate::Answer;
@@ -15,7 +16,6 @@ use crate::steps::matrix;
 use crate::steps::rgb;
 use crate::steps::units;
 use crate::steps::white;
-use fixed::VALUES;
 use fixed::float_of;
 
 fn close_gray(k: GrayClosing, a: i32) -> Xyz
@@ -42,25 +42,20 @@ fn close_lab(k: LabClosing, l: i32, a: i32, b: i32) -> Xyz
     lab(white(k.xw, k.zw), l, a, b)
 }
 
-// What the values answer. They are not limited here.
-pub fn close(k: Closing, v: [i32; VALUES]) -> Answer
-    ensures { λ r. ⌜ meaning r ≡ closed k v ⌝ }
+// What the values a, b, c and d answer: a closing step reads no more than four. They are not limited here.
+pub fn close(k: Closing, a: i32, b: i32, c: i32, d: i32) -> Answer
+    ensures { λ r. ⌜ meaning r ≡ closed k (a ∷ b ∷ c ∷ d ∷ []) ⌝ }
 {
     match k {
         Closing::Nothing => Answer::Refused {
             number: 8,
             block: 0,
         },
-        Closing::Gray => Answer::Gray(float_of(v[0])),
-        Closing::Rgb => Answer::Rgb(float_of(v[0]), float_of(v[1]), float_of(v[2])),
-        Closing::Cmyk => Answer::Cmyk(
-            float_of(v[0]),
-            float_of(v[1]),
-            float_of(v[2]),
-            float_of(v[3]),
-        ),
-        Closing::CalGray(g) => Answer::Xyz(close_gray(g, v[0])),
-        Closing::CalRgb(g) => Answer::Xyz(close_rgb(g, v[0], v[1], v[2])),
-        Closing::Lab(g) => Answer::Xyz(close_lab(g, v[0], v[1], v[2])),
+        Closing::Gray => Answer::Gray(float_of(a)),
+        Closing::Rgb => Answer::Rgb(float_of(a), float_of(b), float_of(c)),
+        Closing::Cmyk => Answer::Cmyk(float_of(a), float_of(b), float_of(c), float_of(d)),
+        Closing::CalGray(g) => Answer::Xyz(close_gray(g, a)),
+        Closing::CalRgb(g) => Answer::Xyz(close_rgb(g, a, b, c)),
+        Closing::Lab(g) => Answer::Xyz(close_lab(g, a, b, c)),
     }
 }

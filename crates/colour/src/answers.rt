@@ -26,10 +26,8 @@ fn value_in(page: &[u8], n: u32, v: [i32; VALUES]) -> Answer
     if k == 5 {
         return value_in(page, inner(page, n), tint(page, n, v));
     }
-    close(
-        closing_at(page, n),
-        limit_all(page, n, components(page, n), v),
-    )
+    let u = limit_all(page, n, components(page, n), v);
+    close(closing_at(page, n), u[0], u[1], u[2], u[3])
 }
 
 // A colour of the space at a number of a page: 8 where there is no space, then 9 for a wrong count of components.

@@ -1,6 +1,8 @@
--- Each return of `end` is the branch of `ended` that its tests lead to.
+-- Each return of `end` is the branch of `ended` that its tests lead to; the closing step reads the first four values.
 use mathlib.Core.Path.{_∙_}
 use borrow.Author.Tests.{eq-eqb, ne-eqb}
+use Rattle.fixed.proofs.Signs.{came}
+use Rattle.cie.proofs.Closes.{closes}
 use Rattle.runner.specs.Runs.{ended}
 use borrow.Author.Needs.{needs}
 use Rattle.runner.proofs.ending.end.Statement.{statement}
@@ -20,14 +22,38 @@ returns-2 : tie.Need-returns-2
 unfolding ended
 returns-2 c = c .refused2 .ensures ∙ simp (eq-eqb _ _ (c .before .before .if1 .left), ne-eqb _ _ (c .before .if2 .taken))
 
+array-copy-out-close : tie.Need-array-copy-out-close
+array-copy-out-close c = search needs
+
+array-copy-out-close-2 : tie.Need-array-copy-out-close-2
+array-copy-out-close-2 c = search needs
+
+array-copy-out-close-3 : tie.Need-array-copy-out-close-3
+array-copy-out-close-3 c = search needs
+
+array-copy-out-close-4 : tie.Need-array-copy-out-close-4
+array-copy-out-close-4 c = search needs
+
 close-requires : tie.Need-close-requires
 close-requires c κs = search needs
 
 returns-3 : tie.Need-returns-3
 unfolding ended
-returns-3 c = c .close .ensures ∙ simp (eq-eqb _ _ (c .before .before .if1 .left), eq-eqb _ _ (c .before .if2 .left))
+returns-3 c =
+    simp (eq-eqb _ _ (c .before .before .before .before .before .before .if1 .left), eq-eqb _ _ (c .before .before .before .before .before .if2 .left))
+    (c .close .ensures ∙ closes _ _ (came _ (c .before .before .before .before .close-arg .given)) (came _ (c .before .before .before .close-arg2 .given)) (came _ (c .before .before .close-arg3 .given)) (came _ (c .before .close-arg4 .given)))
 
 pub end-spec : {M : Type 1} → statement M
 end-spec =
     tie.close
-    (tie.spec refused-requires returns refused-requires-2 returns-2 close-requires returns-3)
+    (tie.spec
+    refused-requires
+    returns
+    refused-requires-2
+    returns-2
+    array-copy-out-close
+    array-copy-out-close-2
+    array-copy-out-close-3
+    array-copy-out-close-4
+    close-requires
+    returns-3)
