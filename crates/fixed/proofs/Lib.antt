@@ -12,3 +12,4 @@ pub mod Scans
 pub mod Totals
 pub mod Listed
 pub mod Trips
+pub mod Places

@@ -5,7 +5,7 @@ ghost use mathlib.Core.Path.{_≡_};
 ghost use Prim.Native.Nat.{_+_, _%_, _<_, _≤_};
 ghost use lib.ListN.{length};
 ghost use lib.Seq.{sets};
-ghost use Rattle.fixed.specs.Bytes.{blockAt, byteAt, twoAt, numberAt, signed, bits, twoBytes, fourBytes, numberBytes};
+ghost use Rattle.fixed.specs.Bytes.{blockAt, byteAt, twoAt, fourAt, numberAt, signed, bits, twoBytes, fourBytes, numberBytes};
 use crate::rounding::lowered;
 use crate::rounding::raised;
 
@@ -31,13 +31,22 @@ pub fn of_signed(v: i32) -> u32
     (a - 2147483648) as u32
 }
 
+// Byte k of a page that has it.
+fn byte_of(page: &[u8], k: usize) -> u32
+    requires { ⌜ k < length (now page) ⌝ }
+    ensures is { λ r. ⌜ r ≡ byteAt (now (page .entry)) k ⌝ }
+    ensures small { λ r. ⌜ r ≤ 255 ⌝ }
+{
+    page[k] as u32
+}
+
 // Byte `at` of block n.
 pub fn byte(page: &[u8], n: u32, at: u32) -> u32
     ensures is { λ r. ⌜ r ≡ byteAt (blockAt (now (page .entry)) n) at ⌝ }
     ensures small { λ r. ⌜ r ≤ 255 ⌝ }
 {
     let k = 512 * (n as usize) + (at as usize);
-    if k < page.len() { page[k] as u32 } else { 0 }
+    if k < page.len() { byte_of(page, k) } else { 0 }
 }
 
 // The number in the two bytes from `at` on of block n.
@@ -46,7 +55,32 @@ pub fn two(page: &[u8], n: u32, at: u32) -> u32
     ensures is { λ r. ⌜ r ≡ twoAt (blockAt (now (page .entry)) n) at ⌝ }
     ensures small { λ r. ⌜ r ≤ 65535 ⌝ }
 {
+    let k = 512 * (n as usize) + (at as usize);
+    if k + 2 <= page.len() {
+        return byte_of(page, k) * 256 + byte_of(page, k + 1);
+    }
     byte(page, n, at) * 256 + byte(page, n, at + 1)
+}
+
+// The number in the four bytes from byte k on of a page that has them.
+fn four_of(page: &[u8], k: usize) -> u32
+    requires { ⌜ k + 4 ≤ length (now page) ⌝ }
+    ensures { λ r. ⌜ r ≡ fourAt (now (page .entry)) k ⌝ }
+{
+    ((byte_of(page, k) * 256 + byte_of(page, k + 1)) * 256 + byte_of(page, k + 2)) * 256
+        + byte_of(page, k + 3)
+}
+
+// The number in the four bytes from `at` on of block n, which the page may not have.
+fn four(page: &[u8], n: u32, at: u32) -> u32
+    requires { ⌜ at < 512 ⌝ }
+    ensures { λ r. ⌜ r ≡ fourAt (blockAt (now (page .entry)) n) at ⌝ }
+{
+    let a = byte(page, n, at);
+    let b = byte(page, n, at + 1);
+    let c = byte(page, n, at + 2);
+    let d = byte(page, n, at + 3);
+    ((a * 256 + b) * 256 + c) * 256 + d
 }
 
 // The signed number in the four bytes from `at` on of block n.
@@ -54,11 +88,11 @@ pub fn number(page: &[u8], n: u32, at: u32) -> i32
     requires { ⌜ at < 512 ⌝ }
     ensures { λ r. ⌜ r ≡ numberAt (blockAt (now (page .entry)) n) at ⌝ }
 {
-    let a = byte(page, n, at);
-    let b = byte(page, n, at + 1);
-    let c = byte(page, n, at + 2);
-    let d = byte(page, n, at + 3);
-    to_signed(((a * 256 + b) * 256 + c) * 256 + d)
+    let k = 512 * (n as usize) + (at as usize);
+    if k + 4 <= page.len() {
+        return to_signed(four_of(page, k));
+    }
+    to_signed(four(page, n, at))
 }
 
 fn low_byte(x: u32) -> u8

@@ -1,6 +1,6 @@
+-- A byte of a block is the page's, further on (`getD-drop`); past the end it is 0.
 use mathlib.Core.Path.{sym, _∙_}
-use Prim.Native.Nat.{_+_, _*_}
-use native.Mathlib.Omega.{arith}
+use Prim.Native.Nat.{_*_}
 use lib.ListN.{List·getD-eq-default}
 use lib.Seq.{getD-drop}
 use denote.Ref.{now}
@@ -14,23 +14,20 @@ mul-k c = search needs
 add-k : tie.Need-add-k
 add-k c = search needs
 
-shared-slice-read-result : tie.Need-shared-slice-read-result
-shared-slice-read-result c = search needs
-
-cast-result : tie.Need-cast-result
-cast-result c = omega (arith, c .shared-slice-known .given (512 * c .before .before .args .n + c .before .before .args .at))
+byte-of-requires : tie.Need-byte-of-requires
+byte-of-requires c κs = search needs
 
 returns : tie.Need-returns
 returns c = (
-  sym (getD-drop (512 * c .before .before .args .n) (now (c .before .before .args .page)) (c .before .before .args .at) 0),
-  omega (arith, c .shared-slice-known .given (512 * c .before .before .args .n + c .before .before .args .at)),
+  c .byte-of .ensures .0 ∙ sym (getD-drop (512 * c .before .before .before .args .n) (now (c .before .before .before .args .page)) (c .before .before .before .args .at) 0),
+  search needs,
 )
 
 returns-2 : tie.Need-returns-2
 returns-2 c = (
-  sym (getD-drop (512 * c .before .args .n) (now (c .before .args .page)) (c .before .args .at) 0 ∙ List·getD-eq-default (now (c .before .args .page)) 0 (c .if1 .left)),
+  sym (getD-drop (512 * c .before .before .args .n) (now (c .before .before .args .page)) (c .before .before .args .at) 0 ∙ List·getD-eq-default (now (c .before .before .args .page)) 0 (c .if1 .left)),
   search needs,
 )
 
 pub byte-spec : {M : Type 1} → statement M
-byte-spec = tie.close (tie.spec mul-k add-k shared-slice-read-result cast-result returns returns-2)
+byte-spec = tie.close (tie.spec mul-k add-k byte-of-requires returns returns-2)

@@ -1,71 +1,54 @@
+-- Where the page has the four bytes, they are those of the block, further on (`four-place`); elsewhere `four` has them.
+use Prim.Native.Nat.{_*_}
+use denote.Ref.{now}
 use Rattle.fixed.specs.Bytes.{numberAt}
+use Rattle.fixed.proofs.Places.{four-place}
 use Rattle.fixed.proofs.Signs.{came}
 use borrow.Author.Needs.{needs}
 use Rattle.fixed.proofs.bytes.number.Statement.{statement}
 use Rattle.fixed.proofs.bytes.number.Tie as tie
 
-byte-requires : tie.Need-byte-requires
-byte-requires c κs = search needs
+mul-k : tie.Need-mul-k
+mul-k c = search needs
 
-add-byte : tie.Need-add-byte
-add-byte c = search needs
+add-k : tie.Need-add-k
+add-k c = search needs
 
-byte-requires-2 : tie.Need-byte-requires-2
-byte-requires-2 c κs = search needs
+add-if1 : tie.Need-add-if1
+add-if1 c = search needs
 
-add-byte-2 : tie.Need-add-byte-2
-add-byte-2 c = search needs
-
-byte-requires-3 : tie.Need-byte-requires-3
-byte-requires-3 c κs = search needs
-
-add-byte-3 : tie.Need-add-byte-3
-add-byte-3 c = search needs
-
-byte-requires-4 : tie.Need-byte-requires-4
-byte-requires-4 c κs = search needs
-
-mul-to-signed : tie.Need-mul-to-signed
-mul-to-signed c = search needs
-
-add-to-signed : tie.Need-add-to-signed
-add-to-signed c = search needs
-
-mul-to-signed-2 : tie.Need-mul-to-signed-2
-mul-to-signed-2 c = search needs
-
-add-to-signed-2 : tie.Need-add-to-signed-2
-add-to-signed-2 c = search needs
-
-mul-to-signed-3 : tie.Need-mul-to-signed-3
-mul-to-signed-3 c = search needs
-
-add-to-signed-3 : tie.Need-add-to-signed-3
-add-to-signed-3 c = search needs
+four-of-requires : tie.Need-four-of-requires
+four-of-requires c κs = search needs
 
 to-signed-requires : tie.Need-to-signed-requires
 to-signed-requires c κs = search needs
 
 returns : tie.Need-returns
 unfolding numberAt
-returns c = cc (came (c .to-signed .result) (c .to-signed .ok))
+returns c =
+    let a = c .before .before .before .before .args in
+    cc (came (c .to-signed .result) (c .to-signed .ok), four-place (now (a .page)) (512 * a .n) (a .at))
+
+four-requires : tie.Need-four-requires
+four-requires c κs = search needs
+
+to-signed-requires-2 : tie.Need-to-signed-requires-2
+to-signed-requires-2 c κs = search needs
+
+returns-2 : tie.Need-returns-2
+unfolding numberAt
+returns-2 c = cc (came (c .to-signed2 .result) (c .to-signed2 .ok))
 
 pub number-spec : {M : Type 1} → statement M
 number-spec =
     tie.close
     (tie.spec
-    byte-requires
-    add-byte
-    byte-requires-2
-    add-byte-2
-    byte-requires-3
-    add-byte-3
-    byte-requires-4
-    mul-to-signed
-    add-to-signed
-    mul-to-signed-2
-    add-to-signed-2
-    mul-to-signed-3
-    add-to-signed-3
+    mul-k
+    add-k
+    add-if1
+    four-of-requires
     to-signed-requires
-    returns)
+    returns
+    four-requires
+    to-signed-requires-2
+    returns-2)
