@@ -5,6 +5,9 @@
  * A reply is 64 bits. Its low half is the number of a refusal, 1 to 11, or 0 where there is none. Its high half is then the block that the refusal is about
  * (0 for a refusal that is about none), or else what the function gives. On a refusal nothing that is lent changes.
  *
+ * What a caller owes, since C says nothing of it: a pointer is good for as many elements as are named with it and is not NULL, even for none; and what a
+ * function writes to overlaps nothing else that it is lent.
+ *
  * Numbers and components are signed 32-bit counts of millionths: 1.0 is 1000000.
  *
  * An example: index 2.5 of the Indexed space of block 0, on the page and by its recipe. (samples/colour.c has it whole.)
