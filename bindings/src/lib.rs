@@ -28,7 +28,7 @@ use std::fmt;
 mod raw;
 mod record;
 
-pub use record::{read_block, write_block, Body, Record};
+pub use record::{read_block, read_numbers, write_block, write_numbers, Body, Record};
 
 /// The number that asks for DeviceGray.
 pub const DEVICE_GRAY: u32 = 0xff01;

@@ -76,8 +76,8 @@ pub struct Record {
 }
 
 impl Record {
-    /// The record as numbers: its own number, its kind, its body's numbers, zeros.
-    fn numbers(&self) -> [i32; NUMBERS] {
+    /// The record as C has it: its own number, its kind, its body's numbers, zeros.
+    pub fn numbers(&self) -> [i32; NUMBERS] {
         let mut numbers = [0; NUMBERS];
         let number = i32::from(self.number);
         let row: Vec<i32> = match &self.body {
@@ -183,14 +183,33 @@ impl Record {
 /// # Ok::<(), sktelbaan::Refusal>(())
 /// ```
 pub fn write_block(record: &Record) -> Result<[u8; 512], Refusal> {
-    let numbers = record.numbers();
+    write_numbers(&record.numbers(), &record.bytes)
+}
+
+/// Writes a record that is passed as C passes it: its own number, its kind, its body's numbers in the
+/// order of [`Body`]'s fields, zeros; and its bytes. A number of any 32 bits gets its refusal: 3 for an
+/// own number, a kind, a name's length or a number that the kind does not name, 4 for hival, 5 for an
+/// exponent, 6 for a reference.
+///
+/// ```
+/// use sktelbaan::{read_numbers, write_numbers};
+/// let mut numbers = [0; 20];
+/// numbers[..4].copy_from_slice(&[1, 4, 0xff03, 255]);
+/// let block = write_numbers(&numbers, &[0; 504])?;
+/// assert_eq!(read_numbers(&block)?, (numbers, [0; 504]));
+///
+/// numbers[3] = 65536;
+/// assert_eq!(write_numbers(&numbers, &[0; 504]).unwrap_err().number, 4);
+/// # Ok::<(), sktelbaan::Refusal>(())
+/// ```
+pub fn write_numbers(numbers: &[i32; 20], bytes: &[u8; 504]) -> Result<[u8; 512], Refusal> {
     let mut block = [0; 512];
     // SAFETY: the 20 numbers and 504 bytes are good for reading, and the block, which nothing else
     // refers to, for writing as many bytes as are named.
     let reply = unsafe {
         raw::sktelbaan_write_block(
             numbers.as_ptr(),
-            record.bytes.as_ptr(),
+            bytes.as_ptr(),
             block.as_mut_ptr(),
             block.len(),
         )
@@ -208,6 +227,12 @@ pub fn write_block(record: &Record) -> Result<[u8; 512], Refusal> {
 /// # Ok::<(), sktelbaan::Refusal>(())
 /// ```
 pub fn read_block(block: &[u8]) -> Result<Record, Refusal> {
+    read_numbers(block).map(|(numbers, bytes)| Record::of(&numbers, bytes))
+}
+
+/// Reads the record of a block by itself, as C has it: the numbers and bytes that [`write_numbers`]
+/// writes that block of.
+pub fn read_numbers(block: &[u8]) -> Result<([i32; 20], [u8; 504]), Refusal> {
     let mut numbers = [0; NUMBERS];
     let mut bytes = [0; 504];
     // SAFETY: the block is good for reading as many bytes as are named, and the 20 numbers and 504
@@ -220,7 +245,7 @@ pub fn read_block(block: &[u8]) -> Result<Record, Refusal> {
             bytes.as_mut_ptr(),
         )
     };
-    given(reply).map(|_| Record::of(&numbers, bytes))
+    given(reply).map(|_| (numbers, bytes))
 }
 
 #[cfg(test)]
@@ -313,33 +338,39 @@ mod tests {
     }
 
     #[test]
-    fn numbers_with_no_room_are_refused_with_3() {
-        let refused = |numbers: [i32; 20], bytes| {
+    fn a_number_of_any_32_bits_has_its_refusal() {
+        let refused = |number: u64, numbers: [i32; 20], bytes| {
             let (reply, block) = write_into(&numbers, &bytes, 512);
-            assert_eq!((reply, block), (3, vec![0xaa; 512]), "{numbers:?}");
+            assert_eq!((reply, block), (number, vec![0xaa; 512]), "{numbers:?}");
             assert_eq!(write_into(&numbers, &bytes, 0).0, 10);
         };
+        // Each place that is no field of 32 bits, with the least number that is too large for its rule.
         for (numbers, bytes) in records() {
-            for own in [-1, 64, 65536, i32::MIN, i32::MAX] {
-                let mut other = numbers;
-                other[0] = own;
-                refused(other, bytes);
-            }
-            for kind in [-1, 7, 256, 257, i32::MIN, i32::MAX] {
-                let mut other = numbers;
-                other[1] = kind;
-                refused(other, bytes);
-            }
-            let limits: &[(usize, i32)] = match numbers[1] {
-                4 => &[(2, 65536), (3, 65536)],
-                5 => &[(2, 65536), (3, 256), (4, 256)],
-                _ => &[],
+            let rules: &[(usize, u64, i32)] = match numbers[1] {
+                4 => &[(0, 3, 64), (1, 3, 7), (2, 6, 64), (3, 4, 256)],
+                5 => &[(0, 3, 64), (1, 3, 7), (2, 6, 64), (3, 5, 5), (4, 3, 128)],
+                _ => &[(0, 3, 64), (1, 3, 7)],
             };
-            for (place, limit) in limits {
-                for number in [*limit, limit + 1, -1, i32::MIN, i32::MAX] {
+            for (place, number, limit) in rules {
+                for v in [*limit, 65536, 65536 + limit, -1, i32::MIN, i32::MAX] {
                     let mut other = numbers;
-                    other[*place] = number;
-                    refused(other, bytes);
+                    other[*place] = v;
+                    refused(*number, other, bytes);
+                }
+            }
+        }
+    }
+
+    #[test]
+    fn a_number_that_the_kind_does_not_name_is_zero() {
+        for (numbers, bytes) in records() {
+            let named = [2, 9, 20, 12, 4, 13, 2][numbers[1] as usize];
+            for place in named..20 {
+                for v in [1, -1, 65536, i32::MIN] {
+                    let mut other = numbers;
+                    other[place] = v;
+                    let (reply, block) = write_into(&other, &bytes, 512);
+                    assert_eq!((reply, block), (3, vec![0xaa; 512]), "{other:?}");
                 }
             }
         }

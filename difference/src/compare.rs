@@ -212,6 +212,29 @@ pub fn write_block(library: &Library, rng: &mut Rng, records: u64) -> Result<Tal
     Ok(tally)
 }
 
+/// Writes this many records of any numbers; one that is accepted reads back as the same numbers and bytes.
+pub fn write_numbers(library: &Library, rng: &mut Rng, records: u64) -> Result<Tally, Difference> {
+    let mut tally = Tally::default();
+    for _ in 0..records {
+        let (numbers, bytes) = inputs::numbers(rng);
+        let expected = (REFERENCE.write_numbers)(&numbers, &bytes);
+        let reply = (library.write_numbers)(&numbers, &bytes);
+        let input = || format!("numbers {numbers:?} bytes {}", hex_of(&bytes));
+        same("write_block, any numbers", &reply, &expected, input)?;
+        tally.count(&reply);
+        if let Ok(block) = reply {
+            let again = sktelbaan::read_numbers(&block);
+            same(
+                "read_block, the numbers",
+                &again,
+                &Ok((numbers, bytes)),
+                input,
+            )?;
+        }
+    }
+    Ok(tally)
+}
+
 /// Reads this many blocks; what is read is written back.
 pub fn read_block(library: &Library, rng: &mut Rng, blocks: u64) -> Result<Tally, Difference> {
     let mut tally = Tally::default();

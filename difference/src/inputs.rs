@@ -1,5 +1,6 @@
 //! Chance input: pages, numbers to be asked for, colours, lists of words, records and blocks.
 
+use crate::ours;
 use reference::block::{lay, seal, Body, Record, BLOCK, DEVICE_CMYK, DEVICE_GRAY, DEVICE_RGB};
 use reference::generate::{
     damage, damage_recipe, long_recipe, random_component, random_lone_record, random_page,
@@ -253,6 +254,27 @@ pub fn record(rng: &mut Rng) -> Record {
         }
     }
     record
+}
+
+/// A record as C passes it: numbers and bytes of an accepted one, with up to three numbers of any 32 bits
+/// in place of its own.
+pub fn numbers(rng: &mut Rng) -> ([i32; 20], [u8; 504]) {
+    let number = rng.below(64) as u16;
+    let record = ours(&random_lone_record(rng, number));
+    let (mut numbers, mut bytes) = (record.numbers(), record.bytes);
+    for _ in 0..rng.below(4) {
+        let place = rng.pick(&[5, 13, 20], 20);
+        numbers[rng.below(place)] = match rng.below(4) {
+            0 => rng.next() as i32,
+            1 => rng.pick(&[0xff01, 0xff03, 0xff04, 0xff02, 65535, 65536], 0),
+            2 => rng.between(-2, 9),
+            _ => rng.pick(&[-1, i32::MIN, i32::MAX, 63, 64, 127, 128, 255, 256], 0),
+        };
+    }
+    if rng.once_in(8) {
+        bytes[rng.below(504)] = rng.next() as u8;
+    }
+    (numbers, bytes)
 }
 
 /// A block: a record's, accepted or not, one with bytes altered under a right or a wrong check, or

@@ -15,7 +15,7 @@ use std::fmt;
 /// What an operation replies.
 pub type Reply<T> = Result<T, Refusal>;
 
-/// The six operations that are compared.
+/// The operations that are compared.
 #[derive(Clone, Copy)]
 pub struct Library {
     /// Validates a page.
@@ -30,6 +30,8 @@ pub struct Library {
     pub write_block: fn(&Record) -> Reply<[u8; 512]>,
     /// Reads the record of a block.
     pub read_block: fn(&[u8]) -> Reply<Record>,
+    /// Writes a record of any 20 numbers and 504 bytes as a block.
+    pub write_numbers: fn(&[i32; 20], &[u8; 504]) -> Reply<[u8; 512]>,
 }
 
 /// The proved library, through its Rust interface.
@@ -40,6 +42,7 @@ pub const PROVED: Library = Library {
     run: sktelbaan::run,
     write_block: sktelbaan::write_block,
     read_block: sktelbaan::read_block,
+    write_numbers: sktelbaan::write_numbers,
 };
 
 /// The second implementation, in the same form.
@@ -65,6 +68,12 @@ pub const REFERENCE: Library = Library {
     read_block: |block| {
         other::read_block(block)
             .map(|record| ours(&record))
+            .map_err(lone)
+    },
+    write_numbers: |numbers, bytes| {
+        let mut block = [0; 512];
+        reference::passed::write(numbers, bytes, &mut block)
+            .map(|()| block)
             .map_err(lone)
     },
 };

@@ -28,7 +28,7 @@ fn asked(words: impl Iterator<Item = String>) -> Option<(u64, u64)> {
 }
 
 /// All the comparisons: for each page validated two colours, two runs of a written recipe, two lists,
-/// two records and two blocks.
+/// two records, two lists of any numbers as records, and two blocks.
 fn compare(seed: u64, pages: u64) -> Result<(), Difference> {
     let rng = &mut Rng::new(seed);
     let library = &PROVED;
@@ -42,6 +42,10 @@ fn compare(seed: u64, pages: u64) -> Result<(), Difference> {
     println!(
         "write_block {}",
         compare::write_block(library, rng, 2 * pages)?
+    );
+    println!(
+        "write_block, any numbers {}",
+        compare::write_numbers(library, rng, 2 * pages)?
     );
     println!(
         "read_block {}",

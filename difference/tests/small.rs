@@ -53,6 +53,11 @@ fn records_and_blocks_are_written_and_read_alike() {
     for number in 3..=6 {
         assert!(tally.refused[number] > 0, "refusal {number} was never met");
     }
+    let tally = compare::write_numbers(&PROVED, &mut Rng::new(8), 4 * PAGES).unwrap();
+    assert!(tally.total() == 4 * PAGES && tally.accepted > PAGES / 2);
+    for number in 3..=6 {
+        assert!(tally.refused[number] > 0, "refusal {number} was never met");
+    }
     let tally = compare::read_block(&PROVED, &mut Rng::new(7), 4 * PAGES).unwrap();
     assert!(tally.total() == 4 * PAGES && tally.accepted > PAGES / 2);
     for number in (2..=6).chain([10]) {

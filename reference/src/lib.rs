@@ -14,6 +14,7 @@ pub mod generate;
 pub mod listing;
 pub mod numbers;
 pub mod page;
+pub mod passed;
 pub mod recipe;
 pub mod records;
 pub mod runner;

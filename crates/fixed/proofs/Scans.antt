@@ -8,7 +8,7 @@ use native.Mathlib.Omega.{arith}
 use borrow.Author.Tests.{eqb-true, eq-eqb, ne-eqb}
 use lib.Dec.{eqb}
 use Rattle.fixed.specs.Loops.{allFrom, allBetween, firstFrom}
-use Rattle.fixed.proofs.Decide.{cond-ind}
+use Rattle.fixed.proofs.Decide.{and-left, and-right, cond-ind}
 
 -- The loop that looks for the first fault: `Clean none refused f n i` is its invariant, that blocks below i have none.
 module _ {A : Type 0} (none : A) (refused : ℕ → ℕ → A) (f : ℕ → ℕ) (n : ℕ) where
@@ -120,3 +120,12 @@ all-same f g j k (suc n) h = λ i. head i && all-same f g (suc j) (suc k) n tail
         let p : j + suc i ≡ suc j + i = omega arith in
         let q : k + suc i ≡ suc k + i = omega arith in
         rw (p, q) at (h (suc i) (omega arith))
+
+-- where all pass, each does
+pub all-each : (f : ℕ → Bool) (k n : ℕ) → allFrom f k n ≡ true → (i : ℕ) → i < n → f (k + i) ≡ true
+unfolding allFrom
+all-each f k zero e i l = absurd (omega arith)
+all-each f k (suc n) e zero l = rw (add-zero k) (and-left (f k) _ e)
+all-each f k (suc n) e (suc i) l =
+    let p : k + suc i ≡ suc k + i = omega arith in
+    rw p (all-each f (suc k) n (and-right (f k) _ e) i (omega arith))

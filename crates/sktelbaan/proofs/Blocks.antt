@@ -17,7 +17,7 @@ use Rattle.block.specs.declared.types.ReadReply.{ReadReply}
 use Rattle.block.specs.Whole.{replyOf, writeNumber, writeOut, readNumber, readOf}
 use Rattle.block.proofs.Exits.{gave-done, gave-refused}
 use Rattle.sktelbaan.specs.Replies.{inHalves}
-use Rattle.sktelbaan.specs.Records.{fitting, recordOf, numbersOf, doneOf, putNumber, putBlock, gotNumbers, gotBytes}
+use Rattle.sktelbaan.specs.Records.{recordLike, recordOf, numbersOf, doneOf, putNumber, putBlock, gotNumbers, gotBytes}
 
 -- a number's reply is that number
 done-number : (n : ℕ) → doneOf (replyOf n) ≡ inHalves n 0
@@ -29,11 +29,11 @@ module _ (v : List ℤ) (s d : List ℕ) where
   unfolding putNumber
   put-short h = rw (ne-eqb (length d) 512 h)
 
-  pub put-unfit : length d ≡ 512 → fitting v ≡ false → putNumber v s d ≡ 3
+  pub put-unfit : length d ≡ 512 → recordLike v ≡ false → putNumber v s d ≡ 3
   unfolding putNumber
   put-unfit l f = rw (eq-eqb (length d) 512 l, f)
 
-  put-fit : length d ≡ 512 → fitting v ≡ true → putNumber v s d ≡ writeNumber (recordOf v s) d
+  put-fit : length d ≡ 512 → recordLike v ≡ true → putNumber v s d ≡ writeNumber (recordOf v s) d
   unfolding putNumber writeNumber
   put-fit l f = rw (eq-eqb (length d) 512 l, f)
 
@@ -43,7 +43,7 @@ module _ (v : List ℤ) (s d : List ℕ) where
   put-kept n e q = (q ∙ ap (λ (m : ℕ). inHalves m 0) (sym e), rw (ne-eqb (putNumber v s d) 0 (λ z. omega arith)))
 
   -- numbers that make a record: what `write` says of it
-  pub put-done : length d ≡ 512 → fitting v ≡ true → (x : Record) → x ≡ recordOf v s → (t : Reply) → t ≡ replyOf (writeNumber x d)
+  pub put-done : length d ≡ 512 → recordLike v ≡ true → (x : Record) → x ≡ recordOf v s → (t : Reply) → t ≡ replyOf (writeNumber x d)
       → {r : ℕ} → r ≡ doneOf t → {o : List ℕ} → o ≡ writeOut x d → (r ≡ inHalves (putNumber v s d) 0) × (o ≡ putBlock v s d)
   unfolding putBlock writeOut
   put-done l f x k t e q w =

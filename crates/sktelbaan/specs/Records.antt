@@ -1,10 +1,11 @@
 -- A record as C has it: 20 numbers and 504 bytes; and what writing one as a block and reading one off a block come to.
-use Prim.Native.Nat.{ℕ, _%_}
-use mathlib.Core.Bool.{Bool, true, cond, _&&_}
-use mathlib.Core.List.{List, [], _∷_}
+use Prim.Native.Nat.{ℕ, min, _+_, _-_}
+use mathlib.Core.Bool.{Bool, cond, _&&_}
+use mathlib.Core.List.{List, [], _∷_, _++_}
 use lib.Dec.{eqb, leb}
 use lib.IntN.{ℤ, pos}
 use lib.ListN.{length, replicate}
+use Rattle.fixed.specs.Loops.{allBetween}
 use Rattle.fixed.specs.Values.{value, smallOf}
 use Rattle.layout.specs.Field.{padded}
 use Rattle.record.specs.declared.types.Triple.{Triple}
@@ -27,26 +28,17 @@ use Rattle.sktelbaan.specs.Replies.{inHalves}
 
 -- ---- a record of numbers v and bytes s
 
--- number k as a natural one: a negative one is 4294967295, which fits no field
+-- number k as a natural one: a negative one is 4294967295, which no field has room for
 abbrev pub small : List ℤ → ℕ → ℕ
 small v k = smallOf (value v k)
 
--- the fields of one and of two bytes have room for numbers 2 on: a reference and hival; a reference, an exponent and the length of a name
-unfoldable pub roomy : ℕ → List ℤ → Bool
-roomy k v =
-    cond (eqb k 4) (leb (small v 2) 65535 && leb (small v 3) 65535)
-    (cond (eqb k 5) (leb (small v 2) 65535 && (leb (small v 3) 255 && leb (small v 4) 255)) true)
-
--- which numbers make a record: an own number of two bytes, a kind 0..6, and its fields have room for theirs
-unfoldable pub fitting : List ℤ → Bool
-fitting v = leb (small v 1) 6 && (leb (small v 0) 65535 && roomy (small v 1) v)
-
--- number k in a field of one byte and of two, where it fits
+-- number k in a field of one byte, and of two. One that the field has no room for stands there as FF or as FFFF, and is refused as these are: an own number and the
+-- length of a name with 3, hival with 4, an exponent with 5, a reference with 6
 abbrev pub oneOf : List ℤ → ℕ → ℕ
-oneOf v k = small v k % 256
+oneOf v k = min (small v k) 255
 
 abbrev pub twoOf : List ℤ → ℕ → ℕ
-twoOf v k = small v k % 65536
+twoOf v k = min (small v k) 65535
 
 -- three numbers and four, at these places
 abbrev pub tripleOf : List ℤ → ℕ → ℕ → ℕ → Triple
@@ -109,24 +101,37 @@ ranges q zs = q .amin ∷ q .amax ∷ q .bmin ∷ q .bmax ∷ zs
 abbrev pub four : Four → List ℤ → List ℤ
 four q zs = q .a ∷ q .b ∷ q .c ∷ q .d ∷ zs
 
--- the numbers of a body, 18 with the zeros after them
+-- the numbers that a body names
 abbrev pub bodyNumbers : Body → List ℤ
-bodyNumbers Free = replicate 18 (pos 0)
-bodyNumbers (CalGray g) = three (g .white) (three (g .black) (g .gamma ∷ replicate 11 (pos 0)))
+bodyNumbers Free = []
+bodyNumbers (CalGray g) = three (g .white) (three (g .black) (g .gamma ∷ []))
 bodyNumbers (CalRgb g) = three (g .white) (three (g .black) (three (g .gammas) (three (g .a) (three (g .b) (three (g .c) [])))))
-bodyNumbers (Lab g) = three (g .white) (three (g .black) (ranges (g .range) (replicate 8 (pos 0))))
-bodyNumbers (Indexed base hival) = pos base ∷ pos hival ∷ replicate 16 (pos 0)
-bodyNumbers (Separation p) =
-    pos (p .alternate) ∷ pos (p .exponent) ∷ pos (p .«name_len») ∷ four (p .c0) (four (p .c1) (replicate 7 (pos 0)))
-bodyNumbers Palette = replicate 18 (pos 0)
+bodyNumbers (Lab g) = three (g .white) (three (g .black) (ranges (g .range) []))
+bodyNumbers (Indexed base hival) = pos base ∷ pos hival ∷ []
+bodyNumbers (Separation p) = pos (p .alternate) ∷ pos (p .exponent) ∷ pos (p .«name_len») ∷ four (p .c0) (four (p .c1) [])
+bodyNumbers Palette = []
 
--- own number and kind before them
+-- own number and kind before them, and zeros after them: 20 numbers
 abbrev pub headed : ℕ → Body → List ℤ
-headed own y = pos own ∷ pos (kindOf y) ∷ bodyNumbers y
+headed own y = pos own ∷ pos (kindOf y) ∷ (bodyNumbers y ++ replicate (18 - length (bodyNumbers y)) (pos 0))
 
 -- the 20 numbers of a record
 abbrev pub numbersOf : Record → List ℤ
 numbersOf r = headed (r .own) (r .body)
+
+-- ---- which numbers make a record
+
+-- how many numbers a body names, with the own number and the kind
+abbrev pub namedCount : Body → ℕ
+namedCount y = 2 + length (bodyNumbers y)
+
+-- whether the numbers from `from` on are zero
+unfoldable pub zeroFrom : List ℤ → ℕ → Bool
+zeroFrom v from = allBetween (λ k. eqb (small v k) 0) from 20
+
+-- a kind 0..6, and zeros where the body names no number: else they are refused with 3
+unfoldable pub recordLike : List ℤ → Bool
+recordLike v = leb (small v 1) 6 && zeroFrom v (namedCount (bodyOf (small v 1) v))
 
 -- ---- what the two functions come to
 
@@ -135,9 +140,9 @@ abbrev pub doneOf : Reply → ℕ
 doneOf Done = inHalves 0 0
 doneOf (Refused n) = inHalves n 0
 
--- writing into bytes d: 10 unless there are 512 of them, 3 where the numbers make no record, then what is refused of the record; or 0
+-- writing into bytes d: 10 unless there are 512 of them, 3 where the numbers make no record, then what is refused of the record, 3, 4, 5 or 6; or 0
 unfoldable pub putNumber : List ℤ → List ℕ → List ℕ → ℕ
-putNumber v s d = cond (eqb (length d) 512) (cond (fitting v) (faultOf (recordOf v s)) 3) 10
+putNumber v s d = cond (eqb (length d) 512) (cond (recordLike v) (faultOf (recordOf v s)) 3) 10
 
 -- the bytes afterwards: the record's block, or on a refusal what they were
 unfoldable pub putBlock : List ℤ → List ℕ → List ℕ → List ℕ

@@ -71,7 +71,7 @@ pub extern "C" fn sktelbaan_write_block(
     if block.len() != 512 {
         return answers::halves(10, 0);
     }
-    if !records::is_fitting(numbers) {
+    if !records::is_record_like(numbers) {
         return answers::halves(3, 0);
     }
     answers::done(block::write(records::record_of(numbers, bytes), block))

@@ -1,7 +1,9 @@
 // The record of what C has of it: 20 numbers and 504 bytes.
 ghost use mathlib.Core.Path.{_≡_};
+ghost use mathlib.Core.List.{List};
+ghost use lib.IntN.{ℤ};
 ghost use Rattle.layout.specs.Field.{padded};
-ghost use Rattle.sktelbaan.specs.Records.{roomy, fitting, oneOf, twoOf, tripleOf, rangesOf, fourOf, grayOf, rgbOf, labOf, inkOf, bodyOf, recordOf};
+ghost use Rattle.sktelbaan.specs.Records.{namedCount, zeroFrom, recordLike, oneOf, twoOf, tripleOf, rangesOf, fourOf, grayOf, rgbOf, labOf, inkOf, bodyOf, recordOf};
 use fixed::small_at;
 use fixed::value_at;
 use record::Body;
@@ -14,36 +16,63 @@ use record::Record;
 use record::Separation;
 use record::Triple;
 
-fn is_roomy(k: u32, v: &[i32]) -> bool
-    ensures { λ r. ⌜ r ≡ roomy k (now (v .entry)) ⌝ }
+// How many numbers a body of that kind names, with the own number and the kind.
+fn named_count(kind: u32) -> usize
+    ensures { λ r. ⌜ ((v : List ℤ) → r ≡ namedCount (bodyOf kind v)) ⌝ }
 {
-    if k == 4 {
-        return (small_at(v, 2) <= 65535) & (small_at(v, 3) <= 65535);
+    match kind {
+        1 => 9,
+        2 => 20,
+        3 => 12,
+        4 => 4,
+        5 => 13,
+        _ => 2,
     }
-    if k == 5 {
-        return (small_at(v, 2) <= 65535) & ((small_at(v, 3) <= 255) & (small_at(v, 4) <= 255));
+}
+
+// Whether the numbers from `from` on are zero.
+fn is_zero_from(v: &[i32], from: usize) -> bool
+    ensures { λ r. ⌜ r ≡ zeroFrom (now (v .entry)) from ⌝ }
+{
+    let mut k = from;
+    while k < 20 {
+        if small_at(v, k) != 0 {
+            return false;
+        }
+        k += 1;
     }
     true
 }
 
-// Whether the numbers make a record.
-pub fn is_fitting(v: &[i32]) -> bool
-    ensures { λ r. ⌜ r ≡ fitting (now (v .entry)) ⌝ }
+// Whether the numbers make a record: a known kind, and zeros where its body names no number.
+pub fn is_record_like(v: &[i32]) -> bool
+    ensures { λ r. ⌜ r ≡ recordLike (now (v .entry)) ⌝ }
 {
     let kind = small_at(v, 1);
-    (kind <= 6) & ((small_at(v, 0) <= 65535) & is_roomy(kind, v))
+    let from = named_count(kind);
+    (kind <= 6) & is_zero_from(v, from)
 }
 
+// Number k in a field of one byte: as FF where that has no room for it.
 fn one_of(v: &[i32], k: usize) -> u8
     ensures { λ r. ⌜ r ≡ oneOf (now (v .entry)) k ⌝ }
 {
-    (small_at(v, k) % 256) as u8
+    let n = small_at(v, k);
+    if n < 255 {
+        return n as u8;
+    }
+    255
 }
 
+// Number k in a field of two bytes: as FFFF where that has no room for it.
 fn two_of(v: &[i32], k: usize) -> u16
     ensures { λ r. ⌜ r ≡ twoOf (now (v .entry)) k ⌝ }
 {
-    (small_at(v, k) % 65536) as u16
+    let n = small_at(v, k);
+    if n < 65535 {
+        return n as u16;
+    }
+    65535
 }
 
 fn triple_of(v: &[i32], i: usize, j: usize, k: usize) -> Triple

@@ -13,14 +13,14 @@ halves-requires c κs = search needs
 returns : tie.Need-returns
 returns c = put-kept (now (c .before .before .before .args .numbers)) (now (c .before .before .before .args .bytes)) (now (c .before .before .before .args .block)) 9 (put-short (now (c .before .before .before .args .numbers)) (now (c .before .before .before .args .bytes)) (now (c .before .before .before .args .block)) (c .before .if1 .taken)) (c .halves .ensures)
 
-is-fitting-requires : tie.Need-is-fitting-requires
-is-fitting-requires c κs = search needs
+is-record-like-requires : tie.Need-is-record-like-requires
+is-record-like-requires c κs = search needs
 
 halves-requires-2 : tie.Need-halves-requires-2
 halves-requires-2 c κs = search needs
 
 returns-2 : tie.Need-returns-2
-returns-2 c = put-kept (now (c .before .before .before .before .before .before .args .numbers)) (now (c .before .before .before .before .before .before .args .bytes)) (now (c .before .before .before .before .before .before .args .block)) 2 (put-unfit (now (c .before .before .before .before .before .before .args .numbers)) (now (c .before .before .before .before .before .before .args .bytes)) (now (c .before .before .before .before .before .before .args .block)) (c .before .before .before .before .if1 .left) (sym (c .before .before .is-fitting .ensures) ∙ not-true _ (c .before .if2 .taken))) (c .halves2 .ensures)
+returns-2 c = put-kept (now (c .before .before .before .before .before .before .args .numbers)) (now (c .before .before .before .before .before .before .args .bytes)) (now (c .before .before .before .before .before .before .args .block)) 2 (put-unfit (now (c .before .before .before .before .before .before .args .numbers)) (now (c .before .before .before .before .before .before .args .bytes)) (now (c .before .before .before .before .before .before .args .block)) (c .before .before .before .before .if1 .left) (sym (c .before .before .is-record-like .ensures) ∙ not-true _ (c .before .if2 .taken))) (c .halves2 .ensures)
 
 record-of-requires : tie.Need-record-of-requires
 record-of-requires c κs = search needs
@@ -35,7 +35,7 @@ same-length : tie.Need-same-length
 same-length c = search needs
 
 returns-3 : tie.Need-returns-3
-returns-3 c = put-done (now (c .before .before .before .before .before .before .before .before .before .before .before .before .args .numbers)) (now (c .before .before .before .before .before .before .before .before .before .before .before .before .args .bytes)) (now (c .before .before .before .before .before .before .before .before .before .before .before .before .args .block)) (c .before .before .before .before .before .before .before .before .before .before .if1 .left) (sym (c .before .before .before .before .before .before .before .before .is-fitting .ensures) ∙ not-false _ (c .before .before .before .before .before .before .before .if2 .left)) _ (c .before .before .before .before .before .record-of .ensures) _ (c .before .before .before .write .ensures .0) (c .done .ensures) (c .before .before .before .write .ensures .1)
+returns-3 c = put-done (now (c .before .before .before .before .before .before .before .before .before .before .before .before .args .numbers)) (now (c .before .before .before .before .before .before .before .before .before .before .before .before .args .bytes)) (now (c .before .before .before .before .before .before .before .before .before .before .before .before .args .block)) (c .before .before .before .before .before .before .before .before .before .before .if1 .left) (sym (c .before .before .before .before .before .before .before .before .is-record-like .ensures) ∙ not-false _ (c .before .before .before .before .before .before .before .if2 .left)) _ (c .before .before .before .before .before .record-of .ensures) _ (c .before .before .before .write .ensures .0) (c .done .ensures) (c .before .before .before .write .ensures .1)
 
 pub sktelbaan-write-block-spec : {M : Type 1} → statement M
 sktelbaan-write-block-spec =
@@ -43,7 +43,7 @@ sktelbaan-write-block-spec =
     (tie.spec
     halves-requires
     returns
-    is-fitting-requires
+    is-record-like-requires
     halves-requires-2
     returns-2
     record-of-requires
