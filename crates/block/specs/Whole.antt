@@ -1,4 +1,4 @@
--- Document 01, "What comes back": writing one block, and reading one block by itself. Refusals in their order; a refusal alters no byte.
+-- FORMAT.md, Refusals and Operations: writing one block, and reading one block by itself. Refusals in their order; a refusal alters no byte.
 use mathlib.Core.Path.{_≡_}
 use mathlib.Core.List.{List}
 use mathlib.Core.Bool.{cond}
@@ -15,7 +15,7 @@ use Rattle.block.specs.declared.types.Reply.{Reply}
 use Rattle.block.specs.declared.types.Reply.the-variants.{Done, Refused}
 use Rattle.block.specs.declared.types.ReadReply.{ReadReply}
 
--- what each case of a reply is in the document's table: `Done` where there is no refusal, and a refusal by its number
+-- what each case of a reply is: `Done` where there is no refusal, and a refusal by its number
 abbrev pub replyOf : ℕ → Reply
 replyOf zero = Done
 replyOf (suc n) = Refused (suc n)

@@ -1,4 +1,4 @@
--- Document 01: "An answer is one of Gray, RGB, CMYK or XYZ with its floats, or a refusal."
+-- FORMAT.md, Answers: "An answer is one of Gray, RGB, CMYK or XYZ with its floats, or a refusal with its number and block."
 use Prim.Native.Nat.{ℕ}
 use mathlib.Core.List.{List, [], _∷_}
 use lib.Ieee.{Float}

@@ -1,4 +1,5 @@
--- The closing steps: from values, which they read as they stand, to a reply. Evaluating a colour and running a recipe both end here.
+-- FORMAT.md, Colour steps and Recipes: the closing steps, from values, which they read as they stand, to a reply. Evaluating a colour and running a recipe both
+-- end here.
 use mathlib.Core.List.{List, [], _∷_}
 use lib.IntN.{ℤ}
 use Rattle.fixed.specs.Numbers.{float}

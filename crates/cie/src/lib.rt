@@ -1,4 +1,4 @@
-// From numbers to colours: the steps on f64, each operation rounded once and in document 01's order, and the closing steps that end in an answer.
+// From numbers to colours: the steps on f64 (FORMAT.md, Colour steps), each operation rounded once and in that order, and the closing steps that end in an answer.
 mod closings;
 mod lab_step;
 mod steps;
@@ -35,7 +35,7 @@ pub struct GrayClosing {
     pub gamma: i32,
 }
 
-// Those of CalRGB's: three gammas, and the matrix in the record's order.
+// The numbers of CalRGB's closing step: three gammas, and the matrix in the record's order.
 pub struct RgbClosing {
     pub ga: i32,
     pub gb: i32,
@@ -51,7 +51,7 @@ pub struct RgbClosing {
     pub zc: i32,
 }
 
-// Those of Lab's: X and Z of the white point.
+// The numbers of Lab's closing step: X and Z of the white point.
 pub struct LabClosing {
     pub xw: i32,
     pub zw: i32,

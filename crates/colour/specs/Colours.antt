@@ -1,4 +1,4 @@
--- Document 01, "Colour steps": what a colour of a space is. Each component is limited first; an Indexed or a Separation makes a colour of the space within.
+-- FORMAT.md, Colour steps: what a colour of a space is. Each component is limited first; an Indexed or a Separation makes a colour of the space within.
 use Prim.Native.Nat.{ℕ, zero, suc}
 use mathlib.Core.Bool.{cond}
 use mathlib.Core.List.{List}

@@ -1,4 +1,4 @@
--- Document 01: "A colour: judge, 8, 9." A colour of the space at a number of a page, whatever the page.
+-- FORMAT.md, Operations, evaluating: the refusals of validation, 8, 9. A colour of the space at a number of a page, whatever the page.
 use Prim.Native.Nat.{ℕ}
 use mathlib.Core.List.{List}
 use lib.IntN.{ℤ}

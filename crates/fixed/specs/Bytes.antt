@@ -1,4 +1,4 @@
--- Document 01, "The page": numbers are big-endian, signed ones in two's complement. A byte past the end of a list is 0.
+-- FORMAT.md, The page: numbers are big-endian, signed ones in two's complement. A byte past the end of a list is 0.
 use Prim.Native.Nat.{ℕ, _+_, _*_, _/_, _%_}
 use mathlib.Core.Bool.{Bool, _||_}
 use mathlib.Core.List.{List, [], _∷_}

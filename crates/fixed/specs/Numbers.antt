@@ -1,4 +1,4 @@
--- Document 01, "Numbers" and the whole-number parts of "Colour steps". A number is a count of millionths.
+-- FORMAT.md, Numbers, and the whole-number parts of Colour steps. A number is a count of millionths.
 use mathlib.Core.Bool.{Bool, false, cond, _&&_}
 use Prim.Native.Nat.{ℕ, zero, suc, _+_, _*_, _/_, _%_}
 use lib.IntN.{ℤ, pos, negsuc, _+ℤ_, _-ℤ_, _*ℤ_}
@@ -53,7 +53,7 @@ tintPower x (suc (suc n)) = halfUpℕ (tintPower x (suc n) * x) 1000000
 abbrev pub tintValue : ℤ → ℤ → ℕ → ℤ
 tintValue c₀ c₁ q = partWay 1000000 q c₀ c₁
 
--- ---- House limits: each gamma and each exponent is whole, 1 to 4
+-- ---- FORMAT.md, Sizes and house limits: each gamma and each exponent is whole, 1 to 4
 
 abbrev pub greatest : ℕ
 greatest = 4

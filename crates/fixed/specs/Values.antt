@@ -1,4 +1,4 @@
--- The steps of a colour on its values: a list of numbers in millionths, of any length.
+-- FORMAT.md, Colour steps and Recipes: the steps of a colour on its values, a list of numbers in millionths, of any length.
 use Prim.Native.Nat.{ℕ, zero, suc, _+_, _*_}
 use mathlib.Core.List.{List, [], _∷_, _++_}
 use lib.IntN.{ℤ, pos, negsuc, natAbs}

@@ -41,7 +41,7 @@ pub fn is_exponent(e: u32) -> bool
     (1 <= e) & (e <= GREATEST)
 }
 
-// Whether a gamma is.
+// Whether a gamma, in millionths, is within the house limit.
 pub fn is_gamma(v: i32) -> bool
     ensures { λ r. ⌜ r ≡ gammaSupported v ⌝ }
 {

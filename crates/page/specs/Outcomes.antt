@@ -1,4 +1,4 @@
--- What validating a page comes to.
+-- What validating a page comes to (FORMAT.md, Operations).
 use Prim.Native.Nat.{ℕ}
 use Rattle.page.specs.declared.Verdict.{Verdict}
 use Rattle.page.specs.declared.Verdict.the-variants.{Accepted, Refused}

@@ -1,4 +1,4 @@
--- Document 01, "What comes back", judging: 1; then blocks upward, 2 before 3; then blocks upward again, 4, 5, 6, 7. The first found is given.
+-- FORMAT.md, Refusals and Operations: validating a page. 1; then blocks upward, 2 before 3; then blocks upward again, 4, 5, 6, 7. The first found is given.
 use Prim.Native.Nat.{ℕ, zero, suc, _+_, _-_, _*_, _/_, _%_}
 use mathlib.Core.Bool.{Bool, true, _&&_, _||_, cond}
 use mathlib.Core.List.{List}

@@ -63,7 +63,7 @@ fn run_length(size: u32) -> u32
     (size + 503) / 504
 }
 
-// One less, and 0 of 0.
+// x - 1, and 0 where x is 0.
 fn less(x: u32) -> u32
     ensures { λ r. ⌜ r ≡ x - 1 ⌝ }
 {

@@ -1,4 +1,4 @@
--- The parts of a recipe on a page.
+-- The words of step 2 and of step 3, read off a page (FORMAT.md, The recipe of a space).
 use Prim.Native.Nat.{ℕ}
 use mathlib.Core.List.{List, _∷_, _++_}
 use lib.IntN.{ℤ, pos}

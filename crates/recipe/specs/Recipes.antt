@@ -1,4 +1,4 @@
--- Document 01, "The recipe": a space's recipe is its count, limits in component order, the closing step. Indexed puts step 2 and Separation step 3 in
+-- FORMAT.md, The recipe of a space: its count, limits in component order, the closing step. Indexed puts step 2 and Separation step 3 in
 -- place of their limits, before those of the inner space.
 use Prim.Native.Nat.{ℕ, zero, suc}
 use mathlib.Core.List.{List, [], _∷_, _++_}

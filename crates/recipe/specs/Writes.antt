@@ -1,4 +1,4 @@
--- What writing a recipe replies, and what it leaves in the words lent.
+-- What writing a recipe replies, and what it leaves in the words lent (FORMAT.md, Operations).
 use Prim.Native.Nat.{ℕ}
 use mathlib.Core.Bool.{cond}
 use mathlib.Core.List.{List, _++_}

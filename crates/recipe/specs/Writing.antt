@@ -1,4 +1,4 @@
--- Document 01: "A recipe: judge, 8, 10." The recipe of the space at a number of a page, whatever the page.
+-- FORMAT.md, Operations, writing a recipe: the refusals of validation, 8, 10. The recipe of the space at a number of a page, whatever the page.
 use Prim.Native.Nat.{ℕ}
 use mathlib.Core.List.{List}
 use lib.IntN.{ℤ}

@@ -24,7 +24,7 @@ pub fn put3(words: &mut [i32], at: usize, a: i32, b: i32, c: i32)
     words[at + 2] = c;
 }
 
-// And four.
+// Stores four words from `at` on.
 pub fn put4(words: &mut [i32], at: usize, a: i32, b: i32, c: i32, d: i32)
     requires { ⌜ at + 4 ≤ length (now words) ⌝ }
     ensures { λ _. ⌜ now (words .exit) ≡ sets (now (words .entry)) at (a ∷ b ∷ c ∷ d ∷ []) ⌝ }

@@ -1,4 +1,4 @@
--- A block as 16 rows of 32 bytes, as the code sums it. Document 01 knows no columns: that they come to its check is shown in proofs/Sums.antt.
+-- A block as 16 rows of 32 bytes, as the code sums it. The format knows no columns: that they come to its check is shown in proofs/Sums.antt.
 use mathlib.Core.List.{List}
 use Prim.Native.Nat.{ℕ, _+_, _*_}
 use Rattle.fixed.specs.Bytes.{byteAt}

@@ -1,4 +1,4 @@
--- Document 01, "The page": what stands in a block of 512 bytes. Byte 0 kind, byte 1 zero, bytes 2-3 the block's own number, body 4-507, check 508-511.
+-- FORMAT.md, The page: what stands in a block of 512 bytes. Byte 0 kind, byte 1 zero, bytes 2-3 the block's own number, body 4-507, check 508-511.
 use mathlib.Core.List.{List, [], _∷_, _++_}
 use mathlib.Core.Bool.{Bool, _&&_}
 use Prim.Native.Nat.{ℕ, _+_, _-_, _*_, _%_}
@@ -23,7 +23,7 @@ ranges q fs = num (q .amin) ∷ num (q .amax) ∷ num (q .bmin) ∷ num (q .bmax
 abbrev pub four : Four → List Field → List Field
 four q fs = num (q .a) ∷ num (q .b) ∷ num (q .c) ∷ num (q .d) ∷ fs
 
--- the column "kind" of the table
+-- the column "kind" of the table of kinds
 abbrev pub kindOf : Body → ℕ
 kindOf Free = 0
 kindOf (CalGray g) = 1
@@ -59,7 +59,7 @@ fields r = one (kindOf (r .body)) ∷ one 0 ∷ two (r .own) ∷ (body (r .body)
 unfoldable pub headOf : Record → List ℕ
 headOf r = written (fields r)
 
--- the sum of b(i) over i = 0..507, modulo 65535, and that of (508 - i) x b(i)
+-- FORMAT.md, The check: the sum of b(i) over i = 0..507, modulo 65535, and that of (508 - i) x b(i)
 unfoldable pub plain : List ℕ → ℕ
 plain b = total (λ i. byteAt b i) 508 % 65535
 

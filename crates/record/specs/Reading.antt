@@ -1,4 +1,4 @@
--- Document 01, "The page": what a block b says, by the byte offsets of the table. Every list of bytes says something; specs/Rules.antt has what is refused.
+-- FORMAT.md, Kinds: what a block b says, by the byte offsets of the table. Every list of bytes says something; specs/Rules.antt has what is refused.
 use mathlib.Core.List.{List, _++_}
 use mathlib.Core.Bool.{cond}
 use Prim.Native.Nat.{ℕ, _+_, _-_}

@@ -1,4 +1,4 @@
--- Document 01, "What comes back": what is refused of a record and of a block, each number in its place.
+-- FORMAT.md, Refusals, Clause rules, and Sizes and house limits: what is refused of a record and of a block, each number in its place.
 use mathlib.Core.List.{List}
 use mathlib.Core.Bool.{Bool, true, _&&_, _||_, cond, not}
 use Prim.Native.Nat.{ℕ, _+_}

@@ -8,19 +8,20 @@ ghost use Rattle.record.specs.Columns.{columnSum, columnRunning};
 use fixed::byte;
 use fixed::two;
 
-// The two sums, modulo 65535: the bytes as they are, and each times its distance from byte 508.
+// The two sums, modulo 65535: `plain` adds the bytes up as they are, `weighed` adds up byte i times 508 - i.
 pub struct Sums {
     pub plain: u32,
     pub weighed: u32,
 }
 
-// A column of a block, which is laid out as 16 rows of 32 bytes: the sum of its bytes, and the sums of its bytes down to each row, summed.
+// One column of a block, taken as 16 rows of 32 bytes. `sum` is the total of its 16 bytes. `running` is the total of the 16 sums that one has on the way down,
+// so the byte in row r is in it 16 - r times.
 struct Column {
     sum: u16,
     running: u16,
 }
 
-// Column k of block n.
+// Column k of block n, from the top row down.
 fn sum_column(page: &[u8], n: u32, k: usize) -> Column
     requires { ⌜ (512 * n + 512 ≤ length (now page)) × (k < 32) ⌝ }
     ensures is { λ r. ⌜ (r .sum ≡ columnSum (blockAt (now (page .entry)) n) k) × (r .running ≡ columnRunning (blockAt (now (page .entry)) n) k) ⌝ }
@@ -38,8 +39,9 @@ fn sum_column(page: &[u8], n: u32, k: usize) -> Column
     Column { sum, running }
 }
 
-// The sums of block n, column by column: byte i, in column k, counts 32 times in each row that it reaches, which is k + 4 more than 508 - i. The last four
-// bytes hold the check, and are taken off.
+// The sums of block n, column by column, which lets the compiler add many bytes at a time. Byte i is in row i / 32 and column k = i % 32, so 32 * running has
+// it 32 * (16 - i / 32) = 512 - i + k times. The check asks for 508 - i times, so `over` takes k + 4 off for each byte of column k. The last four bytes are the
+// check itself and are to count for nothing: bytes 509, 510 and 511 now stand at -1, -2 and -3 times, and are added back.
 pub fn sum_up(page: &[u8], n: u32) -> Sums
     requires { ⌜ 512 * n + 512 ≤ length (now page) ⌝ }
     ensures { λ r. ⌜ (r .plain ≡ plain (blockAt (now (page .entry)) n)) × (r .weighed ≡ weighed (blockAt (now (page .entry)) n)) ⌝ }
@@ -66,7 +68,7 @@ pub fn sum_up(page: &[u8], n: u32) -> Sums
     }
 }
 
-// Whether the check of block n is that of its bytes.
+// Whether block n holds the check that its bytes ask for.
 pub fn is_checked(page: &[u8], n: u32) -> bool
     requires { ⌜ 512 * n + 512 ≤ length (now page) ⌝ }
     ensures { λ r. ⌜ r ≡ checked (blockAt (now (page .entry)) n) ⌝ }

@@ -1,4 +1,4 @@
--- The ranges that document 01, "The recipe", gives a step's small numbers: each step that is read is within them.
+-- The bounds that FORMAT.md, Recipes, gives a step's small numbers: each step that is read is within them.
 use Prim.Native.Nat.{_<_, _≤_}
 use Rattle.fixed.specs.Numbers.{greatest}
 use Rattle.fixed.specs.Values.{places}

@@ -1,4 +1,4 @@
--- Document 01, "The recipe": "the input count 1..4, steps, one closing step, nothing more". What a list of words replies to components.
+-- FORMAT.md, Recipes: "the input count, steps, one closing step, nothing more". What a list of words replies to components.
 use Prim.Native.Nat.{ℕ, zero, suc, pred, _+_}
 use mathlib.Core.Bool.{cond}
 use mathlib.Core.List.{List, [], _∷_}

@@ -1,4 +1,4 @@
--- Document 01, "The recipe": the steps, each read off the front of a list of words.
+-- FORMAT.md, Recipes: the steps, each read off the front of a list of words.
 use Prim.Native.Nat.{ℕ, _+_, _*_}
 use mathlib.Core.Bool.{Bool, cond, _&&_}
 use mathlib.Core.List.{List}

@@ -1,4 +1,4 @@
--- Document 01, "The page": what a number is, as a reference has it or as it is asked for: a block's number, or a device code.
+-- FORMAT.md, References: what a number is, as a reference has it or as it is asked for: a block's number, or a device code.
 use Prim.Native.Nat.{ℕ, _+_, _/_, _%_}
 use mathlib.Core.Bool.{cond}
 use mathlib.Core.List.{List}
@@ -9,7 +9,7 @@ use Rattle.fixed.specs.Bytes.{blocks, blockAt, byteAt, twoAt}
 unfoldable pub kindAt : List ℕ → ℕ → ℕ
 kindAt page n = cond (ltb n blocks) (byteAt (blockAt page n) 0) n
 
--- "nesting falls at each step": Indexed 2, Separation 1, all others 0
+-- FORMAT.md, References: "nesting falls at each step". Indexed 2, Separation 1, all others 0
 unfoldable pub rankAt : List ℕ → ℕ → ℕ
 rankAt page n = cond (eqb (kindAt page n) 4) 2 (cond (eqb (kindAt page n) 5) 1 0)
 

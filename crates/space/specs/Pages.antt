@@ -1,4 +1,4 @@
--- The space at a number of a page, read off the bytes: three levels, so nesting falls at each step.
+-- The space at a number of a page, read off the bytes (FORMAT.md, Kinds and Palettes): three levels, so nesting falls at each step.
 use Prim.Native.Nat.{ℕ, _+_, _*_, _%_}
 use mathlib.Core.Bool.{cond}
 use mathlib.Core.List.{List}

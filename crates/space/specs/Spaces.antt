@@ -1,4 +1,4 @@
--- A colour space: its components, their ranges, its closing step, and how many words its recipe has.
+-- FORMAT.md, Component counts, Limits, and The recipe of a space: a colour space, its components, their ranges, its closing step, and the words of its recipe.
 use Prim.Native.Nat.{ℕ, _+_, _*_}
 use mathlib.Core.Bool.{cond}
 use mathlib.Core.List.{List}

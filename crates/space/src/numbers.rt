@@ -6,7 +6,8 @@ use fixed::BLOCKS;
 use fixed::byte;
 use fixed::two;
 
-// The kind of a number: that of its block, or the number itself where it can be no block's.
+// What a number stands for. A block's number gives the kind byte of that block, 0 where the page has no such block. Any other number is given back as it is,
+// so a device code is its own kind.
 pub fn kind(page: &[u8], n: u32) -> u32
     ensures { λ r. ⌜ r ≡ kindAt (now (page .entry)) n ⌝ }
 {
@@ -16,7 +17,7 @@ pub fn kind(page: &[u8], n: u32) -> u32
     n
 }
 
-// Indexed 2, Separation 1, all others 0.
+// How far a space is from a plain one: an Indexed 2, a Separation 1, all others 0. A space may only refer to one of a lower rank.
 pub fn rank(page: &[u8], n: u32) -> u32
     ensures { λ r. ⌜ r ≡ rankAt (now (page .entry)) n ⌝ }
 {
@@ -27,7 +28,8 @@ pub fn rank(page: &[u8], n: u32) -> u32
     }
 }
 
-// The number of the space that an Indexed or a Separation block refers to; FFFF, which is none, where its rank is not lower.
+// The number that an Indexed or a Separation block refers to. If that is not of a lower rank, which happens on a refused page alone, this gives FFFF, the number
+// of no space, so that going from space to space always ends.
 pub fn inner(page: &[u8], n: u32) -> u32
     ensures is { λ r. ⌜ r ≡ innerAt (now (page .entry)) n ⌝ }
     ensures small { λ r. ⌜ r ≤ 65535 ⌝ }

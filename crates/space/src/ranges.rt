@@ -73,7 +73,7 @@ fn gray_numbers(page: &[u8], n: u32) -> GrayClosing
     }
 }
 
-// Those of CalRGB's, the matrix in the record's order.
+// The numbers of CalRGB's closing step, the matrix in the record's order.
 fn rgb_numbers(page: &[u8], n: u32) -> RgbClosing
     ensures { λ r. ⌜ r ≡ rgbNumbers (blockAt (now (page .entry)) n) ⌝ }
 {
@@ -93,7 +93,7 @@ fn rgb_numbers(page: &[u8], n: u32) -> RgbClosing
     }
 }
 
-// Those of Lab's.
+// The numbers of Lab's closing step.
 fn lab_numbers(page: &[u8], n: u32) -> LabClosing
     ensures { λ r. ⌜ r ≡ labNumbers (blockAt (now (page .entry)) n) ⌝ }
 {
