@@ -16,7 +16,7 @@ use Rattle.space.specs.Spaces.{countOf}
 use Rattle.space.specs.Pages.{spaceAt}
 use Rattle.page.specs.Outcomes.{Outcome, accepted, refused}
 
--- ---- 1: the page's length is not 512 x (1..64)
+-- ---- 1: the page's length is not 512 x (1..blocks)
 
 unfoldable pub wellSized : ℕ → Bool
 wellSized n = eqb (n % 512) 0 && (leb 1 (n / 512) && leb (n / 512) blocks)

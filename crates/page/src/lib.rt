@@ -1,4 +1,4 @@
-// Validating a page: 1 to 64 blocks of 512 bytes, each with a record.
+// Validating a page: 1 to `BLOCKS` blocks of 512 bytes, each with a record (FORMAT.md, The page).
 mod first;
 mod second;
 mod whole;

@@ -6,7 +6,7 @@ use crate::Verdict;
 use crate::first::pass_one;
 use fixed::BLOCKS;
 
-// Whether a page of so many bytes is 1 to 64 blocks.
+// Whether a page of so many bytes is 1 to `BLOCKS` blocks.
 fn is_well_sized(n: usize) -> bool
     ensures { λ r. ⌜ r ≡ wellSized n ⌝ }
 {

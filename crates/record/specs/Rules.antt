@@ -102,7 +102,7 @@ supported (Indexed base hival) = true
 supported (Separation p) = exponentSupported (p .exponent)
 supported Palette = true
 
--- ---- 6, of single blocks: a reference that is neither a device code nor 0..63
+-- ---- 6, of single blocks: a reference that is neither a device code nor a block number
 
 unfoldable pub refers : Body → Bool
 refers Free = true
