@@ -10,37 +10,30 @@ use Rattle.record.specs.Layout.{blockOf, checked}
 use Rattle.record.specs.Reading.{recordAt}
 use Rattle.record.specs.Rules.{known, faultOf, faultAt}
 use Rattle.record.specs.declared.types.Record.{Record}
-use Rattle.block.specs.declared.types.Reply.the-variants.{Done, Refused}
-use Rattle.block.specs.declared.types.ReadReply.{ReadReply}
-use Rattle.block.specs.Whole.{replyOf, writeNumber, writeOut, nothing, gives, readNumber, readOf}
+use Rattle.block.specs.Whole.{Outcome, done, refused, outcomeOf, writeNumber, writeOut, nothing, foundOf, readNumber, readFound}
 
-pub replied : (n : ℕ) → (n ≡ 0 → ⊥) → Refused n ≡ replyOf n
-replied zero h = absurd (h refl)
-replied (suc n) h = refl
+-- a refusal's number is no 0
+pub refused-outcome : (n : ℕ) → (n ≡ 0 → ⊥) → refused n ≡ outcomeOf n
+refused-outcome zero h = absurd (h refl)
+refused-outcome (suc n) h = refl
 
-pub refused : (n : ℕ) (r : Record) → (n ≡ 0 → ⊥) → record { reply = Refused n; found = nothing } ≡ gives n r
-refused zero r h = absurd (h refl)
-refused (suc n) r h = refl
-
--- and back: what a reply says of its number
-pub done-zero : (n : ℕ) → Done ≡ replyOf n → n ≡ 0
+-- and back: what an outcome says of its number
+pub done-zero : (n : ℕ) → done ≡ outcomeOf n → n ≡ 0
 done-zero zero e = refl
 done-zero (suc n) e = cc
 
-pub refused-number : (n m : ℕ) → Refused m ≡ replyOf n → (n ≡ m) × (n ≡ 0 → ⊥)
+pub refused-number : (n m : ℕ) → refused m ≡ outcomeOf n → (n ≡ m) × (n ≡ 0 → ⊥)
 refused-number zero m e = let z : _≡_ {A = ℕ} 0 1 = cc in absurd (omega arith)
 refused-number (suc n) m e = (cc, λ z. omega arith)
 
--- the same of a reply with a record
-gives-reply : (n : ℕ) (r : Record) {a : ReadReply} → a ≡ gives n r → a .reply ≡ replyOf n
-gives-reply zero r e = ap (λ (x : ReadReply). x .reply) e
-gives-reply (suc n) r e = ap (λ (x : ReadReply). x .reply) e
+-- the record that comes with a number
+pub found-done : (n : ℕ) (r : Record) → n ≡ 0 → foundOf n r ≡ r
+unfolding foundOf
+found-done n r e = rw (eq-eqb n 0 e)
 
-pub gave-done : (n : ℕ) (r : Record) {a : ReadReply} → a ≡ gives n r → a .reply ≡ Done → (n ≡ 0) × (a .found ≡ r)
-gave-done n r e h = let z : n ≡ 0 = done-zero n (sym h ∙ gives-reply n r e) in (z, ap (λ (x : ReadReply). x .found) (rw z at e))
-
-pub gave-refused : (n m : ℕ) (r : Record) {a : ReadReply} → a ≡ gives n r → a .reply ≡ Refused m → (n ≡ m) × (n ≡ 0 → ⊥)
-gave-refused n m r e h = refused-number n m (sym h ∙ gives-reply n r e)
+pub found-refused : (n : ℕ) (r : Record) → (n ≡ 0 → ⊥) → foundOf n r ≡ nothing
+unfolding foundOf
+found-refused n r h = rw (ne-eqb n 0 h)
 
 -- ---- write
 
@@ -53,11 +46,11 @@ module _ (r : Record) (d : List ℕ) where
   unfolding writeNumber
   number-fault l = rw (eq-eqb _ _ l)
 
-  pub write-refused : (n : ℕ) → writeNumber r d ≡ n → (n ≡ 0 → ⊥) → (Refused n ≡ replyOf (writeNumber r d)) × (d ≡ writeOut r d)
+  pub write-refused : (n : ℕ) → writeNumber r d ≡ n → (n ≡ 0 → ⊥) → (refused n ≡ outcomeOf (writeNumber r d)) × (d ≡ writeOut r d)
   unfolding writeOut
-  write-refused n e h = (rw e (replied n h), rw (e, ne-eqb n 0 h))
+  write-refused n e h = (rw e (refused-outcome n h), rw (e, ne-eqb n 0 h))
 
-  pub write-done : (x : List ℕ) → writeNumber r d ≡ 0 → x ≡ blockOf r → (Done ≡ replyOf (writeNumber r d)) × (x ≡ writeOut r d)
+  pub write-done : (x : List ℕ) → writeNumber r d ≡ 0 → x ≡ blockOf r → (done ≡ outcomeOf (writeNumber r d)) × (x ≡ writeOut r d)
   unfolding writeOut
   write-done x e q = (rw e, rw e q)
 
@@ -80,10 +73,10 @@ module _ (b : List ℕ) where
   unfolding readNumber faultAt
   read-fault l c k = rw (eq-eqb _ _ l, c, k)
 
-  pub read-refused : (n : ℕ) {x : ReadReply} → readNumber b ≡ n → (n ≡ 0 → ⊥) → x ≡ record { reply = Refused n; found = nothing } → x ≡ readOf b
-  unfolding readOf
-  read-refused n e h q = rw e (q ∙ refused n (recordAt b) h)
+  -- a refusal comes with no record, and where there is none the record read
+  pub read-refused : (n : ℕ) {o : Outcome} {x : Record} → readNumber b ≡ n → (n ≡ 0 → ⊥) → o ≡ refused n → x ≡ nothing
+      → (o ≡ outcomeOf (readNumber b)) × (x ≡ readFound b)
+  read-refused n e h p q = (rw e (p ∙ refused-outcome n h), q ∙ sym (found-refused (readNumber b) (recordAt b) (λ z. h (sym e ∙ z))))
 
-  pub read-done : (r : Record) {x : ReadReply} → readNumber b ≡ 0 → r ≡ recordAt b → x ≡ record { reply = Done; found = r } → x ≡ readOf b
-  unfolding readOf
-  read-done r e i q = rw e (q ∙ (λ j. record { reply = Done; found = i j }))
+  pub read-done : (x : Record) → readNumber b ≡ 0 → x ≡ recordAt b → (done ≡ outcomeOf (readNumber b)) × (x ≡ readFound b)
+  read-done x e q = (rw e, q ∙ sym (found-done (readNumber b) (recordAt b) e))

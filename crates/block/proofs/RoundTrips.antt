@@ -13,11 +13,9 @@ use Rattle.record.specs.Reading.{recordAt}
 use Rattle.record.specs.Rules.{known, shaped, faultOf, faultAt}
 use Rattle.record.specs.Fits.{Fits}
 use Rattle.record.specs.declared.types.Record.{Record}
-use Rattle.block.specs.declared.types.Reply.the-variants.{Done}
-use Rattle.block.specs.declared.types.ReadReply.{ReadReply}
-use Rattle.block.specs.Whole.{writeOut, readNumber, readOf, Block}
+use Rattle.block.specs.Whole.{writeOut, readNumber, Block}
 use Rattle.block.proofs.Blocks.{Read, fits-at, block-at, read-at}
-use Rattle.block.proofs.Exits.{gave-done, number-fault, write-done, read-done, read-fault}
+use Rattle.block.proofs.Exits.{number-fault, write-done, read-fault}
 
 -- a test that decides between two answers passed, where the answer is not that of its failing
 was : {A : Type 0} (t : Bool) (a b r : A) → cond t a b ≡ r → (b ≡ r → ⊥) → t ≡ true
@@ -45,25 +43,15 @@ accepted b e =
     let k : known b ≡ true = was _ _ 3 0 e₂ (λ h. omega arith) in
     record { long = eqb-true _ _ l; checks = c; knows = k; faultless = rw k at e₂ }
 
--- reading replies Done where it found no number to refuse with
-pub number-of-done : (b : List ℕ) → readOf b .reply ≡ Done → readNumber b ≡ 0
-unfolding readOf
-number-of-done b e = gave-done (readNumber b) (recordAt b) refl e .0
-
-pub done-of-number : (b : List ℕ) → readNumber b ≡ 0 → readOf b ≡ record { reply = Done; found = recordAt b }
-done-of-number b e = sym (read-done b (recordAt b) e refl refl)
-
 -- A record that is accepted is read back, of the block that it is written as, as the same record.
-pub read-of-write : (r : Record) → Fits r → faultOf r ≡ 0 → readOf (blockOf r) ≡ record { reply = Done; found = r }
+pub read-of-write : (r : Record) → Fits r → faultOf r ≡ 0 → (readNumber (blockOf r) ≡ 0) × (recordAt (blockOf r) ≡ r)
 read-of-write r fits f =
     let t : Read (blockOf r) r = read-at r fits (fault-shaped r f) in
-    let n : readNumber (blockOf r) ≡ 0 = read-fault (blockOf r) (t .long) (t .checks) (t .knows) ∙ ap faultOf (t .gives) ∙ f in
-    sym (read-done (blockOf r) r n (sym (t .gives)) refl)
+    (read-fault (blockOf r) (t .long) (t .checks) (t .knows) ∙ ap faultOf (t .gives) ∙ f, t .gives)
 
 -- The same of the bytes that writing leaves, whatever they were before.
-pub read-written : (r : Record) (d : List ℕ) → Fits r → length d ≡ 512 → faultOf r ≡ 0 → readOf (writeOut r d) ≡ record { reply = Done; found = r }
-read-written r d fits l f =
-    ap readOf (sym (write-done r d (blockOf r) (number-fault r d l ∙ f) refl .1)) ∙ read-of-write r fits f
+pub read-written : (r : Record) (d : List ℕ) → Fits r → length d ≡ 512 → faultOf r ≡ 0 → (readNumber (writeOut r d) ≡ 0) × (recordAt (writeOut r d) ≡ r)
+read-written r d fits l f = rw (sym (write-done r d (blockOf r) (number-fault r d l ∙ f) refl .1)) (read-of-write r fits f)
 
 -- A block that is accepted is written again, of the record that it is read as, as the same bytes.
 pub write-of-read : (b : List ℕ) → Bytes b → readNumber b ≡ 0 → blockOf (recordAt b) ≡ b
@@ -72,19 +60,15 @@ write-of-read b bytes e =
     sym (block-at b bytes (a .knows) (a .long) (a .checks))
 
 -- The same of the bytes that writing leaves, whatever they were before.
-pub written-again : (b d : List ℕ) → Bytes b → length d ≡ 512 → readOf b .reply ≡ Done → writeOut (readOf b .found) d ≡ b
+pub written-again : (b d : List ℕ) → Bytes b → length d ≡ 512 → readNumber b ≡ 0 → writeOut (recordAt b) d ≡ b
 written-again b d bytes l e =
-    let n : readNumber b ≡ 0 = number-of-done b e in
-    ap (λ (a : ReadReply). writeOut (a .found) d) (done-of-number b n)
-    ∙ sym (write-done (recordAt b) d (blockOf (recordAt b)) (number-fault (recordAt b) d l ∙ accepted b n .faultless) refl .1)
-    ∙ write-of-read b bytes n
+    sym (write-done (recordAt b) d (blockOf (recordAt b)) (number-fault (recordAt b) d l ∙ accepted b e .faultless) refl .1) ∙ write-of-read b bytes e
 
 -- Reading refuses exactly what is no block of an accepted record.
-pub exactly-blocks : (b : List ℕ) → Bytes b → (readOf b .reply ≡ Done → Block b) × (Block b → readOf b .reply ≡ Done)
+pub exactly-blocks : (b : List ℕ) → Bytes b → (readNumber b ≡ 0 → Block b) × (Block b → readNumber b ≡ 0)
 exactly-blocks b bytes = (
   λ e.
-      let n : readNumber b ≡ 0 = number-of-done b e in
-      let a = accepted b n in
-      (recordAt b, (fits-at b bytes (a .knows), (a .faultless, sym (write-of-read b bytes n)))),
-  λ k. ap (λ (s : List ℕ). readOf s .reply) (k .1 .1 .1) ∙ ap (λ (a : ReadReply). a .reply) (read-of-write (k .0) (k .1 .0) (k .1 .1 .0)),
+      let a = accepted b e in
+      (recordAt b, (fits-at b bytes (a .knows), (a .faultless, sym (write-of-read b bytes e)))),
+  λ k. ap readNumber (k .1 .1 .1) ∙ read-of-write (k .0) (k .1 .0) (k .1 .1 .0) .0,
 )

@@ -5,6 +5,7 @@ use mathlib.Core.Bool.{cond}
 use Prim.Native.Nat.{ℕ, zero, suc}
 use lib.ListN.{length, replicate}
 use lib.Dec.{eqb}
+use Rattle.fixed.specs.Loops.{unless}
 use Rattle.record.specs.Layout.{blockOf, checked}
 use Rattle.record.specs.Reading.{recordAt}
 use Rattle.record.specs.Rules.{faultOf, faultAt}
@@ -13,16 +14,25 @@ use Rattle.record.specs.declared.types.Record.{Record}
 use Rattle.record.specs.declared.types.Body.the-variants.{Free}
 use Rattle.block.specs.declared.types.Reply.{Reply}
 use Rattle.block.specs.declared.types.Reply.the-variants.{Done, Refused}
-use Rattle.block.specs.declared.types.ReadReply.{ReadReply}
 
--- what each case of a reply is: `Done` where there is no refusal, and a refusal by its number
-abbrev pub replyOf : ℕ → Reply
-replyOf zero = Done
-replyOf (suc n) = Refused (suc n)
+-- what writing or reading comes to: done, or refused with a number
+pub data Outcome : Type 0 where
+  done : Outcome
+  refused : ℕ → Outcome
+
+-- what each case of the enum `Reply` says
+abbrev pub meaning : Reply → Outcome
+meaning Done = done
+meaning (Refused n) = refused n
+
+-- what the number of a refusal comes to, 0 being none
+abbrev pub outcomeOf : ℕ → Outcome
+outcomeOf zero = done
+outcomeOf (suc n) = refused (suc n)
 
 -- writing record r into bytes d: 10 unless there are 512 of them, then 3, 4, 5, 6
 unfoldable pub writeNumber : Record → List ℕ → ℕ
-writeNumber r d = cond (eqb (length d) 512) (faultOf r) 10
+writeNumber r d = unless (eqb (length d) 512) 10 (faultOf r)
 
 -- the bytes afterwards: the block, or on a refusal what they were
 unfoldable pub writeOut : Record → List ℕ → List ℕ
@@ -30,29 +40,25 @@ writeOut r d = cond (eqb (writeNumber r d) 0) (blockOf r) d
 
 -- reading bytes b: 10 unless there are 512 of them, 2, then as writing
 unfoldable pub readNumber : List ℕ → ℕ
-readNumber b = cond (eqb (length b) 512) (cond (checked b) (faultAt b) 2) 10
+readNumber b = unless (eqb (length b) 512) 10 (unless (checked b) 2 (faultAt b))
 
 -- the record that comes with a refusal: a free block's, numbered 0
 abbrev pub nothing : Record
 nothing = record { own = 0; body = Free; bytes = replicate 504 0 }
 
--- the reply for a number, with the record that was read
-abbrev pub gives : ℕ → Record → ReadReply
-gives zero r = record { reply = Done; found = r }
-gives (suc n) r = record { reply = Refused (suc n); found = nothing }
+-- the record that comes with the number of a refusal: r where that is none
+unfoldable pub foundOf : ℕ → Record → Record
+foundOf n r = cond (eqb n 0) r nothing
 
-unfoldable pub readOf : List ℕ → ReadReply
-readOf b = gives (readNumber b) (recordAt b)
+-- the record that reading bytes b gives
+abbrev pub readFound : List ℕ → Record
+readFound b = foundOf (readNumber b) (recordAt b)
 
 -- b is the block of an accepted record: one with all that the type of records says, and no fault
 abbrev pub Block : List ℕ → Type 0
 Block b = (r : Record) × (Fits r × (faultOf r ≡ 0 × b ≡ blockOf r))
 
--- ---- the round trips, as one call each
-
--- a record written and read back
-unfoldable pub wroteAndRead : Record → ReadReply
-wroteAndRead r = gives (faultOf r) r
+-- ---- a block read and written again, as one call. (A record written and read back comes to `faultOf`, with the record itself.)
 
 -- a block read, and its record written into bytes d: the refusal of reading, else that of writing
 unfoldable pub copyNumber : List ℕ → List ℕ → ℕ

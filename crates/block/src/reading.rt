@@ -1,6 +1,6 @@
 // Reading a block by itself.
 ghost use mathlib.Core.Path.{_≡_};
-ghost use Rattle.block.specs.Whole.{nothing, readOf};
+ghost use Rattle.block.specs.Whole.{meaning, refused, outcomeOf, nothing, readNumber, readFound};
 use crate::types::ReadReply;
 use crate::types::Reply;
 use record::Body;
@@ -12,7 +12,8 @@ use record::record_at;
 
 // The refusal n, with no record.
 pub fn refusal(n: u32) -> ReadReply
-    ensures { λ t. ⌜ t ≡ record { reply = Reply.Refused n; found = nothing } ⌝ }
+    ensures replies { λ t. ⌜ meaning (t .reply) ≡ refused n ⌝ }
+    ensures finds { λ t. ⌜ t .found ≡ nothing ⌝ }
 {
     let found = Record {
         own: 0,
@@ -27,7 +28,8 @@ pub fn refusal(n: u32) -> ReadReply
 
 // Reads the record of the 512 bytes b.
 pub fn read(b: &[u8]) -> ReadReply
-    ensures { λ t. ⌜ t ≡ readOf (now (b .entry)) ⌝ }
+    ensures replies { λ t. ⌜ meaning (t .reply) ≡ outcomeOf (readNumber (now (b .entry))) ⌝ }
+    ensures finds { λ t. ⌜ t .found ≡ readFound (now (b .entry)) ⌝ }
 {
     if b.len() != 512 {
         return refusal(10);

@@ -4,7 +4,7 @@ ghost use mathlib.Core.List.{[], _∷_};
 ghost use lib.ListN.{length};
 ghost use Rattle.layout.specs.Field.{one, two, puts};
 ghost use Rattle.record.specs.Layout.{kindOf, check};
-ghost use Rattle.block.specs.Whole.{replyOf, writeNumber, writeOut};
+ghost use Rattle.block.specs.Whole.{meaning, outcomeOf, writeNumber, writeOut};
 use crate::fields::put_body;
 use crate::types::Reply;
 use layout::put_one;
@@ -50,7 +50,7 @@ fn put_check(out: &mut [u8])
 
 // Writes a record into the 512 bytes of out.
 pub fn write(r: Record, out: &mut [u8]) -> Reply
-    ensures replies { λ t. ⌜ t ≡ replyOf (writeNumber r (now (out .entry))) ⌝ }
+    ensures replies { λ t. ⌜ meaning t ≡ outcomeOf (writeNumber r (now (out .entry))) ⌝ }
     ensures leaves { λ _. ⌜ now (out .exit) ≡ writeOut r (now (out .entry)) ⌝ }
 {
     if out.len() != 512 {

@@ -1,9 +1,13 @@
--- What a loop over the numbers below a bound finds: a sum, whether all pass, and the first fault.
+-- What a test refuses with, and what a loop over the numbers below a bound finds: a sum, whether all pass, and the first fault.
 use Prim.Native.Nat.{ℕ, zero, suc, _+_, _-_}
 use mathlib.Core.Bool.{Bool, true, _&&_, cond}
 use mathlib.Core.List.{List}
 use lib.Dec.{eqb}
 use lib.ListN.{getD}
+
+-- the refusal k unless the test t passes; where it does, what is refused after it. 0 is no refusal
+abbrev pub unless : Bool → ℕ → ℕ → ℕ
+unless t k after = cond t after k
 
 -- the sum of f k over each k below n
 unfoldable pub total : (ℕ → ℕ) → ℕ → ℕ

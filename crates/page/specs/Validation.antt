@@ -5,7 +5,7 @@ use mathlib.Core.List.{List}
 use lib.Dec.{eqb, leb, ltb}
 use lib.ListN.{length}
 use Rattle.fixed.specs.Bytes.{blocks, device, blockAt}
-use Rattle.fixed.specs.Loops.{allBetween, zeroBetween, firstFrom}
+use Rattle.fixed.specs.Loops.{unless, allBetween, zeroBetween, firstFrom}
 use Rattle.record.specs.Layout.{checked}
 use Rattle.record.specs.Reading.{ownAt, bodyAt}
 use Rattle.record.specs.Rules.{formed, lawful, supported}
@@ -25,7 +25,7 @@ wellSized n = eqb (n % 512) 0 && (leb 1 (n / 512) && leb (n / 512) blocks)
 
 -- 2: its check differs. 3: unknown kind, a byte not zero that must be, a name that does not fit; a wrong own number
 unfoldable pub faultOne : List ℕ → ℕ → ℕ
-faultOne page i = cond (checked (blockAt page i)) (cond (formed (blockAt page i) && eqb (ownAt (blockAt page i)) i) 0 3) 2
+faultOne page i = unless (checked (blockAt page i)) 2 (unless (formed (blockAt page i) && eqb (ownAt (blockAt page i)) i) 3 0)
 
 -- ---- the second pass: 4 and 5 are those of a single block
 
@@ -85,7 +85,7 @@ held page i owed Palette = ltb 0 owed
 
 -- the second pass on block i, whose body is y, with so many blocks still claimed
 unfoldable pub faultOwed : List ℕ → ℕ → ℕ → Body → ℕ
-faultOwed page i owed y = cond (lawful y) (cond (supported y) (cond (permitted page y) (cond (held page i owed y) 0 7) 6) 5) 4
+faultOwed page i owed y = unless (lawful y) 4 (unless (supported y) 5 (unless (permitted page y) 6 (unless (held page i owed y) 7 0)))
 
 unfoldable pub faultTwo : List ℕ → ℕ → ℕ
 faultTwo page i = faultOwed page i (owedAt page i) (bodyAt (blockAt page i))

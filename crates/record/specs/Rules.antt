@@ -7,7 +7,7 @@ use lib.IntN.{pos}
 use lib.Signed.{ltZ, leZ}
 use Rattle.fixed.specs.Numbers.{gammaSupported, exponentSupported}
 use Rattle.fixed.specs.Bytes.{blocks, byteAt, device}
-use Rattle.fixed.specs.Loops.{allBetween, zeroBetween}
+use Rattle.fixed.specs.Loops.{unless, allBetween, zeroBetween}
 use Rattle.record.specs.Layout.{namedTo}
 use Rattle.record.specs.Reading.{kindAt, bodyAt, recordAt}
 use Rattle.record.specs.declared.types.Triple.{Triple}
@@ -116,9 +116,8 @@ refers Palette = true
 -- ---- the first of 3, 4, 5, 6 that a record meets, or 0
 
 unfoldable pub faultOf : Record → ℕ
-faultOf r =
-    cond (shaped r) (cond (lawful (r .body)) (cond (supported (r .body)) (cond (refers (r .body)) 0 6) 5) 4) 3
+faultOf r = unless (shaped r) 3 (unless (lawful (r .body)) 4 (unless (supported (r .body)) 5 (unless (refers (r .body)) 6 0)))
 
 -- and the same of a block: what no record can show, its kind and the bytes that are not named, is looked at first, and it is 3
 unfoldable pub faultAt : List ℕ → ℕ
-faultAt b = cond (known b) (faultOf (recordAt b)) 3
+faultAt b = unless (known b) 3 (faultOf (recordAt b))

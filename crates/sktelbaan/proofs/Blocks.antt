@@ -11,16 +11,13 @@ use lib.ListN.{length}
 use Rattle.record.specs.Layout.{blockOf}
 use Rattle.record.specs.Reading.{recordAt}
 use Rattle.record.specs.declared.types.Record.{Record}
-use Rattle.block.specs.declared.types.Reply.{Reply}
-use Rattle.block.specs.declared.types.Reply.the-variants.{Done, Refused}
-use Rattle.block.specs.declared.types.ReadReply.{ReadReply}
-use Rattle.block.specs.Whole.{replyOf, writeNumber, writeOut, readNumber, readOf}
-use Rattle.block.proofs.Exits.{gave-done, gave-refused}
+use Rattle.block.specs.Whole.{Outcome, done, refused, outcomeOf, writeNumber, writeOut, readNumber, readFound}
+use Rattle.block.proofs.Exits.{done-zero, refused-number, found-done}
 use Rattle.sktelbaan.specs.Replies.{inHalves}
 use Rattle.sktelbaan.specs.Records.{recordLike, recordOf, numbersOf, doneOf, putNumber, putBlock, gotNumbers, gotBytes}
 
--- a number's reply is that number
-done-number : (n : ℕ) → doneOf (replyOf n) ≡ inHalves n 0
+-- an outcome's reply is its number
+done-number : (n : ℕ) → doneOf (outcomeOf n) ≡ inHalves n 0
 done-number zero = refl
 done-number (suc n) = refl
 
@@ -43,30 +40,29 @@ module _ (v : List ℤ) (s d : List ℕ) where
   put-kept n e q = (q ∙ ap (λ (m : ℕ). inHalves m 0) (sym e), rw (ne-eqb (putNumber v s d) 0 (λ z. omega arith)))
 
   -- numbers that make a record: what `write` says of it
-  pub put-done : length d ≡ 512 → recordLike v ≡ true → (x : Record) → x ≡ recordOf v s → (t : Reply) → t ≡ replyOf (writeNumber x d)
+  pub put-done : length d ≡ 512 → recordLike v ≡ true → (x : Record) → x ≡ recordOf v s → (t : Outcome) → t ≡ outcomeOf (writeNumber x d)
       → {r : ℕ} → r ≡ doneOf t → {o : List ℕ} → o ≡ writeOut x d → (r ≡ inHalves (putNumber v s d) 0) × (o ≡ putBlock v s d)
   unfolding putBlock writeOut
   put-done l f x k t e q w =
       let p = put-fit l f in (
-        q ∙ ap doneOf (e ∙ ap (λ (y : Record). replyOf (writeNumber y d)) k) ∙ done-number _ ∙ ap (λ (m : ℕ). inHalves m 0) (sym p),
+        q ∙ ap doneOf (e ∙ ap (λ (y : Record). outcomeOf (writeNumber y d)) k) ∙ done-number _ ∙ ap (λ (m : ℕ). inHalves m 0) (sym p),
         w ∙ ap (λ (y : Record). writeOut y d) k ∙ ap (λ (m : ℕ). cond (eqb m 0) (blockOf (recordOf v s)) d) (sym p),
       )
 
-module _ (b : List ℕ) (v : List ℤ) (s : List ℕ) (a : ReadReply) (e : a ≡ readOf b) where
-  pub got-done : a .reply ≡ Done → {r : ℕ} → r ≡ inHalves 0 0 → {w : List ℤ} → w ≡ numbersOf (a .found)
-      → (r ≡ inHalves (readNumber b) 0) × ((w ≡ gotNumbers b v) × (a .found .bytes ≡ gotBytes b s))
-  unfolding readOf gotNumbers gotBytes
-  got-done h q p =
-      let g = gave-done (readNumber b) (recordAt b) e h in (
-        q ∙ ap (λ (m : ℕ). inHalves m 0) (sym (g .0)),
-        (rw (g .0) (p ∙ ap numbersOf (g .1)), rw (g .0) (ap (λ (x : Record). x .bytes) (g .1))),
-      )
+module _ (b : List ℕ) (v : List ℤ) (s : List ℕ) {t : Outcome} {x : Record} (p : t ≡ outcomeOf (readNumber b)) (q : x ≡ readFound b) where
+  pub got-done : t ≡ done → {r : ℕ} → r ≡ inHalves 0 0 → {w : List ℤ} → w ≡ numbersOf x
+      → (r ≡ inHalves (readNumber b) 0) × ((w ≡ gotNumbers b v) × (x .bytes ≡ gotBytes b s))
+  unfolding gotNumbers gotBytes
+  got-done h e w =
+      let none : readNumber b ≡ 0 = done-zero _ (sym h ∙ p) in
+      let is : x ≡ recordAt b = q ∙ found-done (readNumber b) (recordAt b) none in
+      (e ∙ ap (λ (m : ℕ). inHalves m 0) (sym none), (rw none (w ∙ ap numbersOf is), rw none (ap (λ (y : Record). y .bytes) is)))
 
-  pub got-refused : (n : ℕ) → a .reply ≡ Refused n → {r : ℕ} → r ≡ inHalves n 0
+  pub got-refused : (n : ℕ) → t ≡ refused n → {r : ℕ} → r ≡ inHalves n 0
       → (r ≡ inHalves (readNumber b) 0) × ((v ≡ gotNumbers b v) × (s ≡ gotBytes b s))
-  unfolding readOf gotNumbers gotBytes
-  got-refused n h q =
-      let g = gave-refused (readNumber b) n (recordAt b) e h in (
-        q ∙ ap (λ (m : ℕ). inHalves m 0) (sym (g .0)),
+  unfolding gotNumbers gotBytes
+  got-refused n h e =
+      let g = refused-number (readNumber b) n (sym h ∙ p) in (
+        e ∙ ap (λ (m : ℕ). inHalves m 0) (sym (g .0)),
         (rw (ne-eqb (readNumber b) 0 (g .1)), rw (ne-eqb (readNumber b) 0 (g .1))),
       )

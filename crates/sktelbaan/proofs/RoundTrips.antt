@@ -26,10 +26,9 @@ use Rattle.record.specs.Rules.{nameFits, named, shaped, lawful, supported, refe
 use Rattle.record.specs.declared.types.Body.{Body}
 use Rattle.record.specs.declared.types.Body.the-variants.{Free, CalGray, CalRgb, Lab, Indexed, Separation, Palette}
 use Rattle.record.specs.declared.types.Record.{Record}
-use Rattle.block.specs.Whole.{readNumber, readOf}
-use Rattle.block.specs.declared.types.ReadReply.{ReadReply}
+use Rattle.block.specs.Whole.{readNumber}
 use Rattle.block.proofs.Blocks.{fits-at}
-use Rattle.block.proofs.RoundTrips.{accepted, number-of-done, done-of-number, read-of-write, write-of-read}
+use Rattle.block.proofs.RoundTrips.{accepted, read-of-write, write-of-read}
 use Rattle.sktelbaan.specs.Records.{small, oneOf, twoOf, bodyOf, recordOf, bodyNumbers, headed, numbersOf, namedCount, zeroFrom, recordLike, putNumber, putBlock, gotNumbers, gotBytes}
 use Rattle.sktelbaan.specs.RoundTrips.{Passed, Reads, Writes, RoundTrips}
 
@@ -258,8 +257,8 @@ module _ (v : List ℤ) (s : List ℕ) (p : Passed v s) where
       let fits = made-fits (leb-true _ 6 (and-left _ _ (like .0))) in
       let b = blockOf made in
       let read = read-of-write made fits (like .1) in
-      let none : readNumber b ≡ 0 = number-of-done b (ap (λ (a : ReadReply). a .reply) read) in
-      let back : recordAt b ≡ made = ap (λ (a : ReadReply). a .found) (sym (done-of-number b none) ∙ read) in
+      let none : readNumber b ≡ 0 = read .0 in
+      let back : recordAt b ≡ made = read .1 in
       let is : cond (eqb (putNumber v s d) 0) b d ≡ b = rw e in
       rw is (record {
         accepted = none;

@@ -5,7 +5,7 @@ use mathlib.Core.List.{List, [], _∷_, _++_}
 use lib.Dec.{eqb, leb}
 use lib.IntN.{ℤ, pos}
 use lib.ListN.{length, replicate}
-use Rattle.fixed.specs.Loops.{allBetween}
+use Rattle.fixed.specs.Loops.{unless, allBetween}
 use Rattle.fixed.specs.Values.{value, smallOf}
 use Rattle.layout.specs.Field.{padded}
 use Rattle.record.specs.declared.types.Triple.{Triple}
@@ -21,9 +21,7 @@ use Rattle.record.specs.declared.types.Record.{Record}
 use Rattle.record.specs.Layout.{kindOf, blockOf}
 use Rattle.record.specs.Reading.{recordAt}
 use Rattle.record.specs.Rules.{faultOf}
-use Rattle.block.specs.Whole.{readNumber}
-use Rattle.block.specs.declared.types.Reply.{Reply}
-use Rattle.block.specs.declared.types.Reply.the-variants.{Done, Refused}
+use Rattle.block.specs.Whole.{Outcome, done, refused, readNumber}
 use Rattle.sktelbaan.specs.Replies.{inHalves}
 
 -- ---- a record of numbers v and bytes s
@@ -135,14 +133,14 @@ recordLike v = leb (small v 1) 6 && zeroFrom v (namedCount (bodyOf (small v 1) v
 
 -- ---- what the two functions come to
 
--- what a reply of `block` is: nothing is given
-abbrev pub doneOf : Reply → ℕ
-doneOf Done = inHalves 0 0
-doneOf (Refused n) = inHalves n 0
+-- what `block` comes to, as a reply: nothing is given
+abbrev pub doneOf : Outcome → ℕ
+doneOf done = inHalves 0 0
+doneOf (refused n) = inHalves n 0
 
 -- writing into bytes d: 10 unless there are 512 of them, 3 where the numbers make no record, then what is refused of the record, 3, 4, 5 or 6; or 0
 unfoldable pub putNumber : List ℤ → List ℕ → List ℕ → ℕ
-putNumber v s d = cond (eqb (length d) 512) (cond (recordLike v) (faultOf (recordOf v s)) 3) 10
+putNumber v s d = unless (eqb (length d) 512) 10 (unless (recordLike v) 3 (faultOf (recordOf v s)))
 
 -- the bytes afterwards: the record's block, or on a refusal what they were
 unfoldable pub putBlock : List ℤ → List ℕ → List ℕ → List ℕ

@@ -2,6 +2,7 @@
 ghost use mathlib.Core.Path.{_≡_};
 ghost use mathlib.Core.List.{[], _∷_};
 ghost use lib.Seq.{sets};
+ghost use Rattle.block.specs.Whole.{meaning as blockOutcome};
 ghost use Rattle.cie.specs.Answers.{meaning};
 ghost use Rattle.page.specs.Outcomes.{meaning as judged};
 ghost use Rattle.recipe.specs.Writes.{meaning as wrote};
@@ -84,7 +85,7 @@ pub fn count(w: Written) -> u64
 
 // What writing a block comes to, as a reply.
 pub fn done(t: Reply) -> u64
-    ensures { λ r. ⌜ r ≡ doneOf t ⌝ }
+    ensures { λ r. ⌜ r ≡ doneOf (blockOutcome t) ⌝ }
 {
     match t {
         Reply::Done => halves(0, 0),

@@ -1,5 +1,7 @@
 -- Each case of what `read` replies is a law.
+use mathlib.Core.Path.{ap}
 use denote.Ref.{now}
+use Rattle.block.specs.Whole.{meaning}
 use Rattle.sktelbaan.proofs.Blocks.{got-done, got-refused}
 use borrow.Author.Needs.{needs}
 use Rattle.sktelbaan.proofs.sktelbaan_read_block.Statement.{statement}
@@ -24,10 +26,19 @@ halves-requires-2 : tie.Need-halves-requires-2
 halves-requires-2 c κs = search needs
 
 returns : tie.Need-returns
-returns c = got-done (now (c .before .before .before .before .before .before .before .before .args .block)) (now (c .before .before .before .before .before .before .before .before .args .numbers)) (now (c .before .before .before .before .before .before .before .before .args .bytes)) _ (c .before .before .before .before .before .before .read .ensures) (c .before .before .before .before .enum-told .given .1) (c .halves .ensures) (c .before .before .numbers-of .ensures)
+returns c =
+    let laid = c .before .before in
+    let told = laid .before .before in
+    let got = told .before .before in
+    let start = got .before .before in
+    got-done (now (start .args .block)) (now (start .args .numbers)) (now (start .args .bytes)) (got .read .ensures .0) (got .read .ensures .1) (ap meaning (told .enum-told .given .1)) (c .halves .ensures) (laid .numbers-of .ensures)
 
 returns-2 : tie.Need-returns-2
-returns-2 c = got-refused (now (c .before .before .before .before .before .before .args .block)) (now (c .before .before .before .before .before .before .args .numbers)) (now (c .before .before .before .before .before .before .args .bytes)) _ (c .before .before .before .before .read .ensures) _ (c .before .before .reply .given .1) (c .halves2 .ensures)
+returns-2 c =
+    let told = c .before .before in
+    let got = told .before .before in
+    let start = got .before .before in
+    got-refused (now (start .args .block)) (now (start .args .numbers)) (now (start .args .bytes)) (got .read .ensures .0) (got .read .ensures .1) _ (ap meaning (told .reply .given .1)) (c .halves2 .ensures)
 
 pub sktelbaan-read-block-spec : {M : Type 1} → statement M
 sktelbaan-read-block-spec =

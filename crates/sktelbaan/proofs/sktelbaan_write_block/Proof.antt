@@ -11,7 +11,10 @@ halves-requires : tie.Need-halves-requires
 halves-requires c κs = search needs
 
 returns : tie.Need-returns
-returns c = put-kept (now (c .before .before .before .args .numbers)) (now (c .before .before .before .args .bytes)) (now (c .before .before .before .args .block)) 9 (put-short (now (c .before .before .before .args .numbers)) (now (c .before .before .before .args .bytes)) (now (c .before .before .before .args .block)) (c .before .if1 .taken)) (c .halves .ensures)
+returns c =
+    let long = c .before in
+    let a = long .before .before .args in
+    put-kept (now (a .numbers)) (now (a .bytes)) (now (a .block)) 9 (put-short (now (a .numbers)) (now (a .bytes)) (now (a .block)) (long .if1 .taken)) (c .halves .ensures)
 
 is-record-like-requires : tie.Need-is-record-like-requires
 is-record-like-requires c κs = search needs
@@ -20,7 +23,12 @@ halves-requires-2 : tie.Need-halves-requires-2
 halves-requires-2 c κs = search needs
 
 returns-2 : tie.Need-returns-2
-returns-2 c = put-kept (now (c .before .before .before .before .before .before .args .numbers)) (now (c .before .before .before .before .before .before .args .bytes)) (now (c .before .before .before .before .before .before .args .block)) 2 (put-unfit (now (c .before .before .before .before .before .before .args .numbers)) (now (c .before .before .before .before .before .before .args .bytes)) (now (c .before .before .before .before .before .before .args .block)) (c .before .before .before .before .if1 .left) (sym (c .before .before .is-record-like .ensures) ∙ not-true _ (c .before .if2 .taken))) (c .halves2 .ensures)
+returns-2 c =
+    let like = c .before .before in
+    let long = like .before .before in
+    let a = long .before .before .args in
+    let not-like = sym (like .is-record-like .ensures) ∙ not-true _ (c .before .if2 .taken) in
+    put-kept (now (a .numbers)) (now (a .bytes)) (now (a .block)) 2 (put-unfit (now (a .numbers)) (now (a .bytes)) (now (a .block)) (long .if1 .left) not-like) (c .halves2 .ensures)
 
 record-of-requires : tie.Need-record-of-requires
 record-of-requires c κs = search needs
@@ -35,7 +43,14 @@ same-length : tie.Need-same-length
 same-length c = search needs
 
 returns-3 : tie.Need-returns-3
-returns-3 c = put-done (now (c .before .before .before .before .before .before .before .before .before .before .before .before .args .numbers)) (now (c .before .before .before .before .before .before .before .before .before .before .before .before .args .bytes)) (now (c .before .before .before .before .before .before .before .before .before .before .before .before .args .block)) (c .before .before .before .before .before .before .before .before .before .before .if1 .left) (sym (c .before .before .before .before .before .before .before .before .is-record-like .ensures) ∙ not-false _ (c .before .before .before .before .before .before .before .if2 .left)) _ (c .before .before .before .before .before .record-of .ensures) _ (c .before .before .before .write .ensures .0) (c .done .ensures) (c .before .before .before .write .ensures .1)
+returns-3 c =
+    let wrote = c .before .before .before in
+    let made = wrote .before .before in
+    let tested = made .before .before in
+    let like = tested .before in
+    let long = like .before .before in
+    let a = long .before .before .args in
+    put-done (now (a .numbers)) (now (a .bytes)) (now (a .block)) (long .if1 .left) (sym (like .is-record-like .ensures) ∙ not-false _ (tested .if2 .left)) _ (made .record-of .ensures) _ (wrote .write .ensures .0) (c .done .ensures) (wrote .write .ensures .1)
 
 pub sktelbaan-write-block-spec : {M : Type 1} → statement M
 sktelbaan-write-block-spec =

@@ -1,5 +1,5 @@
 -- `read`: each exit is one law: the number of the refusal, or the record read.
-use mathlib.Core.Path.{refl, sym, ap, _∙_}
+use mathlib.Core.Path.{sym, ap, _∙_}
 use native.Mathlib.Omega.{arith}
 use denote.Ref.{now}
 use Rattle.block.proofs.Exits.{read-short, read-unchecked, read-unknown, read-fault, read-refused, read-done}
@@ -13,7 +13,10 @@ refusal-requires : tie.Need-refusal-requires
 refusal-requires c κs = search needs
 
 returns : tie.Need-returns
-returns c = read-refused (now (c .before .before .before .args .b)) 10 (read-short (now (c .before .before .before .args .b)) (c .before .if1 .taken)) (λ z. omega arith) (c .refusal .ensures)
+returns c =
+    let long = c .before in
+    let b = now (long .before .before .args .b) in
+    read-refused b 10 (read-short b (long .if1 .taken)) (λ z. omega arith) (c .refusal .ensures .0) (c .refusal .ensures .1)
 
 is-checked-requires : tie.Need-is-checked-requires
 is-checked-requires c κs = search needs
@@ -22,7 +25,12 @@ refusal-requires-2 : tie.Need-refusal-requires-2
 refusal-requires-2 c κs = search needs
 
 returns-2 : tie.Need-returns-2
-returns-2 c = read-refused (now (c .before .before .before .before .before .args .b)) 2 (read-unchecked (now (c .before .before .before .before .before .args .b)) (c .before .before .before .if1 .left) (sym (c .before .before .is-checked .ensures) ∙ not-true _ (c .before .if2 .taken))) (λ z. omega arith) (c .refusal2 .ensures)
+returns-2 c =
+    let checks = c .before .before in
+    let long = checks .before in
+    let b = now (long .before .before .args .b) in
+    let unchecked = sym (checks .is-checked .ensures) ∙ not-true _ (c .before .if2 .taken) in
+    read-refused b 2 (read-unchecked b (long .if1 .left) unchecked) (λ z. omega arith) (c .refusal2 .ensures .0) (c .refusal2 .ensures .1)
 
 is-known-requires : tie.Need-is-known-requires
 is-known-requires c κs = search needs
@@ -31,7 +39,14 @@ refusal-requires-3 : tie.Need-refusal-requires-3
 refusal-requires-3 c κs = search needs
 
 returns-3 : tie.Need-returns-3
-returns-3 c = read-refused (now (c .before .before .before .before .before .before .before .args .b)) 3 (read-unknown (now (c .before .before .before .before .before .before .before .args .b)) (c .before .before .before .before .before .if1 .left) (sym (c .before .before .before .before .is-checked .ensures) ∙ not-false _ (c .before .before .before .if2 .left)) (sym (c .before .before .is-known .ensures) ∙ not-true _ (c .before .if3 .taken))) (λ z. omega arith) (c .refusal3 .ensures)
+returns-3 c =
+    let knows = c .before .before in
+    let checks = knows .before .before in
+    let long = checks .before in
+    let b = now (long .before .before .args .b) in
+    let checked = sym (checks .is-checked .ensures) ∙ not-false _ (knows .before .if2 .left) in
+    let unknown = sym (knows .is-known .ensures) ∙ not-true _ (c .before .if3 .taken) in
+    read-refused b 3 (read-unknown b (long .if1 .left) checked unknown) (λ z. omega arith) (c .refusal3 .ensures .0) (c .refusal3 .ensures .1)
 
 record-at-requires : tie.Need-record-at-requires
 record-at-requires c κs = search needs
@@ -43,10 +58,30 @@ refusal-requires-4 : tie.Need-refusal-requires-4
 refusal-requires-4 c κs = search needs
 
 returns-4 : tie.Need-returns-4
-returns-4 c = read-refused (now (c .before .before .before .before .before .before .before .before .before .before .args .b)) _ (read-fault (now (c .before .before .before .before .before .before .before .before .before .before .args .b)) (c .before .before .before .before .before .before .before .before .if1 .left) (sym (c .before .before .before .before .before .before .before .is-checked .ensures) ∙ not-false _ (c .before .before .before .before .before .before .if2 .left)) (sym (c .before .before .before .before .before .is-known .ensures) ∙ not-false _ (c .before .before .before .before .if3 .left)) ∙ ap faultOf (sym (c .before .before .before .record-at .ensures)) ∙ sym (c .before .before .fault .ensures)) (c .before .if4 .taken) (c .refusal4 .ensures)
+returns-4 c =
+    let faulty = c .before .before in
+    let found = faulty .before in
+    let knows = found .before .before in
+    let checks = knows .before .before in
+    let long = checks .before in
+    let b = now (long .before .before .args .b) in
+    let checked = sym (checks .is-checked .ensures) ∙ not-false _ (knows .before .if2 .left) in
+    let known = sym (knows .is-known .ensures) ∙ not-false _ (found .before .if3 .left) in
+    let number = read-fault b (long .if1 .left) checked known ∙ ap faultOf (sym (found .record-at .ensures)) ∙ sym (faulty .fault .ensures) in
+    read-refused b _ number (c .before .if4 .taken) (c .refusal4 .ensures .0) (c .refusal4 .ensures .1)
 
 returns-5 : tie.Need-returns-5
-returns-5 c = read-done (now (c .before .before .before .before .before .before .before .before .before .args .b)) _ (read-fault (now (c .before .before .before .before .before .before .before .before .before .args .b)) (c .before .before .before .before .before .before .before .if1 .left) (sym (c .before .before .before .before .before .before .is-checked .ensures) ∙ not-false _ (c .before .before .before .before .before .if2 .left)) (sym (c .before .before .before .before .is-known .ensures) ∙ not-false _ (c .before .before .before .if3 .left)) ∙ ap faultOf (sym (c .before .before .record-at .ensures)) ∙ sym (c .before .fault .ensures) ∙ c .if4 .left) (c .before .before .record-at .ensures) refl
+returns-5 c =
+    let faulty = c .before in
+    let found = faulty .before in
+    let knows = found .before .before in
+    let checks = knows .before .before in
+    let long = checks .before in
+    let b = now (long .before .before .args .b) in
+    let checked = sym (checks .is-checked .ensures) ∙ not-false _ (knows .before .if2 .left) in
+    let known = sym (knows .is-known .ensures) ∙ not-false _ (found .before .if3 .left) in
+    let number = read-fault b (long .if1 .left) checked known ∙ ap faultOf (sym (found .record-at .ensures)) ∙ sym (faulty .fault .ensures) in
+    read-done b _ (number ∙ c .if4 .left) (found .record-at .ensures)
 
 pub read-spec : {M : Type 1} → statement M
 read-spec =

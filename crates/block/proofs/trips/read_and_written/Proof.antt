@@ -1,6 +1,9 @@
 -- `read_and_written`: what `read` and `write` promise, and that bytes are below 256.
 use native.Mathlib.Omega.{arith}
+use mathlib.Core.Path.{ap}
 use denote.Ref.{now}
+use Rattle.layout.specs.Field.{Bytes}
+use Rattle.block.specs.Whole.{meaning}
 use Rattle.block.proofs.Carried.{copy-done, copy-refused}
 use borrow.Author.Needs.{needs}
 use Rattle.block.proofs.trips.read_and_written.Statement.{statement}
@@ -22,10 +25,19 @@ same-length : tie.Need-same-length
 same-length c = search needs
 
 returns : tie.Need-returns
-returns c = copy-done (now (c .before .before .before .before .before .before .before .before .before .before .args .b)) (now (c .before .before .before .before .before .before .before .before .before .before .args .out)) (c .before .before .before .before .before .before .before .read .ensures) (λ i. omega (arith, c .before .before .before .before .before .before .before .before .before .shared-slice-known .given i)) (c .before .before .before .before .before .enum-told .given .1) (c .before .before .write .ensures .0) (c .before .before .write .ensures .1)
+returns c =
+    let wrote = c .before .before in
+    let told = wrote .before .before .before in
+    let got = told .before .before in
+    let start = got .before .before .before in
+    let bytes : Bytes (now (start .args .b)) = λ i. omega (arith, got .before .before .shared-slice-known .given i) in
+    copy-done (now (start .args .b)) (now (start .args .out)) (got .read .ensures .0) (got .read .ensures .1) bytes (ap meaning (told .enum-told .given .1)) (wrote .write .ensures .0) (wrote .write .ensures .1)
 
 returns-2 : tie.Need-returns-2
-returns-2 c = copy-refused (now (c .before .before .before .before .before .before .args .b)) (now (c .before .before .before .before .before .before .args .out)) (c .before .before .before .read .ensures) _ (c .before .reply .given .1)
+returns-2 c =
+    let got = c .before .before .before in
+    let start = got .before .before .before in
+    copy-refused (now (start .args .b)) (now (start .args .out)) (got .read .ensures .0) (got .read .ensures .1) _ (ap meaning (c .before .reply .given .1))
 
 pub read-and-written-spec : {M : Type 1} → statement M
 read-and-written-spec =

@@ -1,7 +1,8 @@
 -- `written_and_read`: what `write` and `read` promise, and that the record fits.
-use mathlib.Core.Path.{sym, _∙_}
+use mathlib.Core.Path.{sym, ap, _∙_}
 use Prim.Native.Nat.{ℕ}
 use lib.ListN.{replicate}
+use Rattle.block.specs.Whole.{meaning}
 use Rattle.block.proofs.Carried.{trip-done, trip-refused}
 use lib.ListN.{length-replicate}
 use borrow.Author.Needs.{needs}
@@ -33,10 +34,19 @@ refusal-requires : tie.Need-refusal-requires
 refusal-requires c κs = search needs
 
 returns : tie.Need-returns
-returns c = trip-done (c .before .before .before .before .before .before .before .before .args .r) (replicate 512 0) (length-replicate {A = ℕ} 512 0) (c .before .before .before .before .before .before .before .record-fits .ensures) _ (sym (c .before .before .enum-told .given .1) ∙ c .before .before .before .before .before .write .ensures .0) (c .before .before .before .before .before .write .ensures .1) (c .read .ensures)
+returns c =
+    let told = c .before .before in
+    let wrote = told .before .before .before in
+    let fits = wrote .before .before in
+    let done = sym (ap meaning (told .enum-told .given .1)) ∙ wrote .write .ensures .0 in
+    trip-done (fits .before .args .r) (replicate 512 0) (length-replicate {A = ℕ} 512 0) (fits .record-fits .ensures) _ done (wrote .write .ensures .1) (c .read .ensures .0) (c .read .ensures .1)
 
 returns-2 : tie.Need-returns-2
-returns-2 c = trip-refused (c .before .before .before .before .before .before .before .before .args .r) (replicate 512 0) (length-replicate {A = ℕ} 512 0) _ (sym (c .before .before .reply .given .1) ∙ c .before .before .before .before .before .write .ensures .0) (c .refusal .ensures)
+returns-2 c =
+    let told = c .before .before in
+    let wrote = told .before .before .before in
+    let refused = sym (ap meaning (told .reply .given .1)) ∙ wrote .write .ensures .0 in
+    trip-refused (wrote .before .before .before .args .r) (replicate 512 0) (length-replicate {A = ℕ} 512 0) _ refused (c .refusal .ensures .0) (c .refusal .ensures .1)
 
 pub written-and-read-spec : {M : Type 1} → statement M
 written-and-read-spec =

@@ -33,11 +33,17 @@ same-length : tie.Need-same-length
 same-length c = search needs
 
 returns-3 : tie.Need-returns-3
-returns-3 c = let r = c .before .before .before .before .before .before .before .before .before .before .before .before .before .before .before .before .before .before .before .args .r in
-    let out = now (c .before .before .before .before .before .before .before .before .before .before .before .before .before .before .before .before .before .before .before .args .out) in
-    let long = c .before .before .before .before .before .before .before .before .before .before .before .before .before .before .before .before .before .if1 .left in
-    write-done r out _ (number-fault r out long ∙ sym (c .before .before .before .before .before .before .before .before .before .before .before .before .before .before .before .before .fault .ensures) ∙ c .before .before .before .before .before .before .before .before .before .before .before .before .before .before .before .if2 .left)
-    (laid r out (c .before .before .before .before .before .before .before .before .before .before .before .before .before .kind-of .result) long (c .before .before .before .before .before .before .before .before .before .before .before .before .before .kind-of .ensures) (c .before .before .before .before .before .before .before .before .before .before .before .put-head .ensures) (c .before .before .before .before .before .before .put-body .ensures) (c .before .before .put-check .ensures))
+returns-3 c =
+    let checked = c .before .before in
+    let stored = checked .before .before .before .before in
+    let headed = stored .before .before .before .before .before in
+    let kind = headed .before .before in
+    let tested = kind .before .before in
+    let r = tested .before .before .before .before .args .r in
+    let out = now (tested .before .before .before .before .args .out) in
+    let long = tested .before .before .if1 .left in
+    write-done r out _ (number-fault r out long ∙ sym (tested .before .fault .ensures) ∙ tested .if2 .left)
+    (laid r out (kind .kind-of .result) long (kind .kind-of .ensures) (headed .put-head .ensures) (stored .put-body .ensures) (checked .put-check .ensures))
 
 pub write-spec : {M : Type 1} → statement M
 write-spec =
