@@ -1,32 +1,8 @@
--- Replies as C has them: 64 bits and, of an answer, four floats.
-use Prim.Native.Nat.{ℕ, _+_, _*_}
-use mathlib.Core.List.{List}
-use lib.Ieee.{Float}
-use lib.Seq.{sets}
+-- Replies of the operations that a plate setter does not link, as C has them. What a reply is, and what an answer is as one, stands in `sktelbaan_runner`.
+use Prim.Native.Nat.{ℕ}
 use Rattle.page.specs.Outcomes.{Outcome, accepted, refused}
 use Rattle.recipe.specs.Writes.{Reply as Wrote, wrote, refusal as unwritten}
-use Rattle.cie.specs.Answers.{Kind, inGray, inRgb, inCmyk, inXyz, Reply, answer, refusal}
-
--- a low half and a high half
-abbrev pub inHalves : ℕ → ℕ → ℕ
-inHalves low high = high * 4294967296 + low
-
--- 1 Gray, 2 RGB, 3 CMYK, 4 XYZ
-abbrev pub codeOf : Kind → ℕ
-codeOf inGray = 1
-codeOf inRgb = 2
-codeOf inCmyk = 3
-codeOf inXyz = 4
-
--- an answer: no refusal, and its code; a refusal: its number and block
-abbrev pub replyOf : Reply → ℕ
-replyOf (answer k fs) = inHalves 0 (codeOf k)
-replyOf (refusal number block) = inHalves number block
-
--- an answer's floats, stored from the first on, the others as they were; on a refusal all as they were
-abbrev pub floatsOf : Reply → List Float → List Float
-floatsOf (answer k fs) d = sets d 0 fs
-floatsOf (refusal number block) d = d
+pub use Rattle.sktelbaan_runner.specs.Replies.{inHalves}
 
 -- validation: nothing is given where a page is accepted
 abbrev pub verdictOf : Outcome → ℕ

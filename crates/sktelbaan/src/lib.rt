@@ -1,13 +1,12 @@
-// The C interface: each operation under a plain name, for C and Rust to link. Nothing is decided here.
-//
-// A reply is 64 bits. Its low half is the number of a refusal, or 0. Its high half is then the block that the refusal is about, or else what the operation gives.
+// The C interface: each operation under a plain name, for C and Rust to link. Nothing is decided here. What a reply of 64 bits is stands in `sktelbaan_runner`.
 ghost use mathlib.Core.Path.{_≡_};
 ghost use Rattle.colour.specs.Evaluating.{evaluated};
 ghost use Rattle.page.specs.Validation.{validated};
 ghost use Rattle.recipe.specs.Writing.{writeReply, writeLeft};
 ghost use Rattle.runner.specs.Runs.{ran};
 ghost use Rattle.block.specs.Whole.{readNumber};
-ghost use Rattle.sktelbaan.specs.Replies.{inHalves, replyOf, floatsOf, verdictOf, countOf};
+ghost use Rattle.sktelbaan_runner.specs.Replies.{inHalves, replyOf, floatsOf};
+ghost use Rattle.sktelbaan.specs.Replies.{verdictOf, countOf};
 ghost use Rattle.sktelbaan.specs.Records.{putNumber, putBlock, gotNumbers, gotBytes};
 
 mod answers;
@@ -55,7 +54,7 @@ pub extern "C" fn sktelbaan_run(words: &[i32], components: &[i32], floats: &mut 
     ensures { λ r. ⌜ r ≡ replyOf (ran (now (words .entry)) (now (components .entry))) ⌝ }
     ensures { λ _. ⌜ now (floats .exit) ≡ floatsOf (ran (now (words .entry)) (now (components .entry))) (now (floats .entry)) ⌝ }
 {
-    answers::put_answer(runner::run(words, components), floats)
+    sktelbaan_runner::sktelbaan_run(words, components, floats)
 }
 
 // Writes a record as a block of 512 bytes. The reply gives nothing; on a refusal the block stays as it was.

@@ -2,7 +2,7 @@
 use mathlib.Core.Path.{ap, _∙_}
 use denote.Ref.{now}
 use Rattle.cie.specs.Answers.{Reply}
-use Rattle.sktelbaan.specs.Replies.{replyOf, floatsOf}
+use Rattle.sktelbaan_runner.specs.Replies.{replyOf, floatsOf}
 use borrow.Author.Needs.{needs}
 use Rattle.sktelbaan.proofs.sktelbaan_evaluate.Statement.{statement}
 use Rattle.sktelbaan.proofs.sktelbaan_evaluate.Tie as tie

@@ -1,8 +1,8 @@
 -- Each case of an answer gives its reply, and its floats are stored.
 use mathlib.Core.Path.{refl}
 use borrow.Author.Needs.{needs}
-use Rattle.sktelbaan.proofs.answers.put_answer.Statement.{statement}
-use Rattle.sktelbaan.proofs.answers.put_answer.Tie as tie
+use Rattle.sktelbaan_runner.proofs.answers.put_answer.Statement.{statement}
+use Rattle.sktelbaan_runner.proofs.answers.put_answer.Tie as tie
 
 enum-known-a : tie.Need-enum-known-a
 enum-known-a c = search needs

@@ -2,10 +2,10 @@
 use mathlib.Core.Path.{ap, _∙_}
 use denote.Ref.{now}
 use Rattle.cie.specs.Answers.{Reply}
-use Rattle.sktelbaan.specs.Replies.{replyOf, floatsOf}
+use Rattle.sktelbaan_runner.specs.Replies.{replyOf, floatsOf}
 use borrow.Author.Needs.{needs}
-use Rattle.sktelbaan.proofs.sktelbaan_run.Statement.{statement}
-use Rattle.sktelbaan.proofs.sktelbaan_run.Tie as tie
+use Rattle.sktelbaan_runner.proofs.sktelbaan_run.Statement.{statement}
+use Rattle.sktelbaan_runner.proofs.sktelbaan_run.Tie as tie
 
 run-requires : tie.Need-run-requires
 run-requires c κs = search needs
