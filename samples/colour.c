@@ -1,45 +1,38 @@
-/* colour PAGE NUMBER COMPONENT...
+/* colour [-w WORDS] PAGE NUMBER COMPONENT...
  *
  * Evaluates a colour of a page, writes the recipe of its space, runs the recipe on the same colour, and prints both answers. It fails on a refusal,
  * and where the answers differ in a bit.
  * NUMBER is a block's number or a device code, as 0xFF03. Components are in millionths: 1.0 is 1000000.
+ * With -w the recipe's words go to the file WORDS as well, one to a line, for run.c.
  */
-#include <errno.h>
-#include <stdio.h>
-#include <stdlib.h>
 #include <string.h>
 
 #include "sktelbaan.h"
+#include "text.h"
 
 /* A page of the most bytes and one more, so that a longer file is refused for its length. */
-static uint8_t page[64 * 512 + 1];
-static int32_t words[SKTELBAAN_LONGEST];
+static uint8_t page[SKTELBAAN_MOST_BLOCKS * SKTELBAAN_BLOCK_BYTES + 1];
+static int32_t words[SKTELBAAN_MOST_WORDS];
 
-/* Prints a reply with its floats. */
-static void print(const char *what, uint64_t reply, const double floats[4]) {
-    static const char *const names[] = {"", "Gray", "RGB", "CMYK", "XYZ"};
-    static const int counts[] = {0, 1, 3, 4, 3};
-    if (sktelbaan_refusal(reply) != 0) {
-        printf("%s refused %u block %u\n", what, (unsigned)sktelbaan_refusal(reply), (unsigned)sktelbaan_value(reply));
-        return;
-    }
-    uint32_t space = sktelbaan_value(reply);
-    printf("%s %s", what, names[space]);
-    for (int i = 0; i < counts[space]; i++)
-        printf(" %.17g", floats[i]);
-    printf("\n");
-}
-
-/* A whole number from lo to hi, or the end of the program. */
-static long long whole(const char *text, long long lo, long long hi) {
-    char *end;
-    errno = 0;
-    long long v = strtoll(text, &end, 0);
-    if (errno != 0 || end == text || *end != 0 || v < lo || v > hi) {
-        fprintf(stderr, "colour: not a number from %lld to %lld: %s\n", lo, hi, text);
+/* Opens a file, or ends the program. */
+static FILE *open_file(const char *name, const char *mode) {
+    FILE *file = fopen(name, mode);
+    if (file == NULL) {
+        perror(name);
         exit(2);
     }
-    return v;
+    return file;
+}
+
+/* Writes a recipe's words to a file, one to a line. */
+static void keep_words(const char *name, uint32_t count) {
+    FILE *file = open_file(name, "w");
+    for (uint32_t i = 0; i < count; i++)
+        fprintf(file, "%ld\n", (long)words[i]);
+    if (fclose(file) != 0) {
+        perror(name);
+        exit(2);
+    }
 }
 
 int main(int argc, char **argv) {
@@ -47,35 +40,37 @@ int main(int argc, char **argv) {
     int32_t components[MOST];
     double floats[4] = {0};
     double again[4] = {0};
+    const char *kept = NULL;
+    if (argc > 2 && strcmp(argv[1], "-w") == 0) {
+        kept = argv[2];
+        argv += 2;
+        argc -= 2;
+    }
     if (argc < 3 || argc > 3 + MOST) {
-        fprintf(stderr, "usage: colour PAGE NUMBER COMPONENT...\n");
+        fprintf(stderr, "usage: colour [-w WORDS] PAGE NUMBER COMPONENT...\n");
         return 2;
     }
-    FILE *file = fopen(argv[1], "rb");
-    if (file == NULL) {
-        perror(argv[1]);
-        return 2;
-    }
+    FILE *file = open_file(argv[1], "rb");
     size_t length = fread(page, 1, sizeof page, file);
     fclose(file);
     uint32_t number = (uint32_t)whole(argv[2], 0, UINT32_MAX);
-    size_t count = (size_t)(argc - 3);
-    for (size_t i = 0; i < count; i++)
-        components[i] = (int32_t)whole(argv[3 + i], INT32_MIN, INT32_MAX);
+    size_t count = read_components(argv + 3, argc - 3, components);
 
     uint64_t answer = sktelbaan_evaluate(page, length, number, components, count, floats);
-    print("page", answer, floats);
+    print_reply("page", answer, floats);
 
-    uint64_t reply = sktelbaan_write_recipe(page, length, number, words, SKTELBAAN_LONGEST);
+    uint64_t reply = sktelbaan_write_recipe(page, length, number, words, SKTELBAAN_MOST_WORDS);
     if (sktelbaan_refusal(reply) != 0) {
-        print("recipe", reply, floats);
+        print_reply("recipe", reply, floats);
         return 1;
     }
     uint32_t written = sktelbaan_value(reply);
     printf("recipe of %u words\n", (unsigned)written);
+    if (kept != NULL)
+        keep_words(kept, written);
 
     reply = sktelbaan_run(words, written, components, count, again);
-    print("run", reply, again);
+    print_reply("run", reply, again);
     int same = reply == answer && memcmp(again, floats, sizeof floats) == 0;
     return same && sktelbaan_refusal(reply) == 0 ? 0 : 1;
 }

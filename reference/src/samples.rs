@@ -224,9 +224,10 @@ written by the second implementation:
 
     cargo run --release --offline --manifest-path reference/Cargo.toml --bin samples -- samples
 
-`colour.c` is a C program that evaluates a colour, writes the space's recipe, runs it and prints both answers. With the library in
-`target/staticlib/` (`rt staticlib sktelbaan` puts it there), `samples/build` compiles it, runs it on the colours of `colours.txt`, and compares what it
-prints with that text.
+`colour.c` is a C program that evaluates a colour, writes the space's recipe, runs it and prints both answers. `run.c` runs a recipe that it wrote, with the
+plate setter's library alone. `edges.c` checks the C interface at its edges. With the libraries in `target/staticlib/` (`rt staticlib sktelbaan` and
+`rt staticlib sktelbaan_runner` put them there), `samples/build` compiles all three, runs the first two on the colours of `colours.txt`, and compares what
+they print with that text.
 ",
     );
     for Sample { name, about, page } in all() {

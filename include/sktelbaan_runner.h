@@ -1,0 +1,127 @@
+/* Sktelbaan: running recipes.
+ *
+ * This is all that a plate setter needs: a recipe's words and a colour go in, the colour's answer comes out. Link libsktelbaan_runner.a, which has just
+ * sktelbaan_run. Who has pages includes sktelbaan.h, which has every operation, and links libsktelbaan.a.
+ *
+ * How to read a reply. Every function returns one number of 64 bits, its reply. Ask first whether it refused:
+ *
+ *     if (sktelbaan_refusal(reply) != 0)
+ *         printf("refused: %s, block %u\n", sktelbaan_refusal_text(sktelbaan_refusal(reply)), sktelbaan_block(reply));
+ *     else
+ *         use(sktelbaan_value(reply));
+ *
+ * A refusal means that something is wrong with what you passed: the number says what, the block says where on the page (0 where it is about no block),
+ * and everything that you lent is as it was before the call. Otherwise it worked, and the value is what the function gives: with each function stands
+ * what that is.
+ *
+ * What you may pass: anything. A page, a record, a recipe or a colour may be broken in any way; it gets a reply. No function keeps anything, allocates
+ * anything or waits for anything, so any thread may call any of them at any time.
+ *
+ * What you owe, since C cannot see it: a pointer is good for as many elements as the length beside it says, or as the brackets say; and what a function
+ * writes to overlaps nothing else that you lend it. Where a length is 0 the pointer beside it is not looked at, and may be NULL.
+ *
+ * Numbers and components are signed 32-bit counts of millionths: 1.0 is 1000000.
+ */
+#ifndef SKTELBAAN_RUNNER_H
+#define SKTELBAAN_RUNNER_H
+
+#include <stddef.h>
+#include <stdint.h>
+
+#ifdef __cplusplus
+extern "C" {
+#endif
+
+/* The version of Sktelbaan, as numbers and as text. */
+#define SKTELBAAN_VERSION_MAJOR 0
+#define SKTELBAAN_VERSION_MINOR 1
+#define SKTELBAAN_VERSION_PATCH 0
+#define SKTELBAAN_VERSION "0.1.0"
+
+/* The refusal that a reply is, by its number in the list below; 0 where nothing is refused. */
+static inline uint32_t sktelbaan_refusal(uint64_t reply) { return (uint32_t)reply; }
+
+/* The block that a refusal is about; 0 where it is about none, and where nothing is refused. */
+static inline uint32_t sktelbaan_block(uint64_t reply) { return sktelbaan_refusal(reply) != 0 ? (uint32_t)(reply >> 32) : 0; }
+
+/* What the function gives; 0 where something is refused. */
+static inline uint32_t sktelbaan_value(uint64_t reply) { return sktelbaan_refusal(reply) == 0 ? (uint32_t)(reply >> 32) : 0; }
+
+/* The refusals. */
+enum sktelbaan_refusals {
+    /* The page is not 1 to 64 whole blocks of 512 bytes. */
+    SKTELBAAN_REFUSED_LENGTH = 1,
+    /* The check stored in a block is not that of its bytes: the block was damaged, or changed without writing its check anew. */
+    SKTELBAAN_REFUSED_CHECK = 2,
+    /* A block's kind is unknown, its own number is not that of its place, a byte is not zero that must be, or a Separation's name is not 1 to 127 bytes
+     * with no zero among them. */
+    SKTELBAAN_REFUSED_LAYOUT = 3,
+    /* A number is none that PDF allows: white X or Z not above 0 or white Y not 1, a black point below 0, a CalGray gamma not above 0, a range whose low
+     * end is above its high end, or hival above 255. */
+    SKTELBAAN_REFUSED_NUMBER = 4,
+    /* A gamma or an exponent is none that is carried here: not a whole number from 1 to 4. */
+    SKTELBAAN_REFUSED_POWER = 5,
+    /* A reference is neither a device code nor a block of the page, or the block is of a kind that may not be used there. */
+    SKTELBAAN_REFUSED_REFERENCE = 6,
+    /* An Indexed space has too few palette blocks straight after it, or its palette's spare bytes are not zero; a palette block belongs to no Indexed space;
+     * or C0 or C1 of a Separation has a number other than 0 beyond what its alternate space has components. */
+    SKTELBAAN_REFUSED_PALETTE = 7,
+    /* The number asked for is neither a device code nor a block that holds a space, kinds 1 to 5. */
+    SKTELBAAN_REFUSED_SPACE = 8,
+    /* More or fewer components were given than the space or the recipe takes. */
+    SKTELBAAN_REFUSED_COUNT = 9,
+    /* Fewer words were lent than the recipe has, or a block was not lent as 512 bytes. */
+    SKTELBAAN_REFUSED_ROOM = 10,
+    /* The words are no recipe. */
+    SKTELBAAN_REFUSED_RECIPE = 11
+};
+
+/* A refusal in words, of the number that sktelbaan_refusal gives. The text stays for good: do not free it. */
+static inline const char *sktelbaan_refusal_text(uint32_t refusal) {
+    static const char *const texts[] = {
+        "the page is not 1 to 64 blocks of 512 bytes",
+        "a block's check is not that of its bytes",
+        "an unknown kind, a wrong number of its own, a byte that should be zero, or a bad name",
+        "a white point, black point, gamma, range or hival that PDF does not allow",
+        "a gamma or an exponent that is not a whole number from 1 to 4",
+        "a reference to no block of the page, or to a kind that may not be used there",
+        "a palette that is too short, has bytes to spare or has no Indexed space, or C0 or C1 beyond the alternate space",
+        "the number asked for is neither a device code nor a block with a space",
+        "the wrong number of components",
+        "too few words for the recipe, or not 512 bytes for a block",
+        "the words are no recipe",
+    };
+    return refusal >= 1 && refusal <= 11 ? texts[refusal - 1] : "not a refusal of this library";
+}
+
+/* What an answer is in: the value of sktelbaan_run and sktelbaan_evaluate. It has one, three, four and three floats. */
+enum { SKTELBAAN_GRAY = 1, SKTELBAAN_RGB = 2, SKTELBAAN_CMYK = 3, SKTELBAAN_XYZ = 4 };
+
+/* How many words the longest recipe has. */
+enum { SKTELBAAN_MOST_WORDS = 1045 };
+
+/* The library itself is never given NULL: compilers that know the mark say so where they see one. */
+#ifdef __GNUC__
+#define SKTELBAAN_NEVER_NULL __attribute__((nonnull))
+#else
+#define SKTELBAAN_NEVER_NULL
+#endif
+
+/* Runs a recipe, just its words, on the components of a colour. Refuses with 11, then 9. Gives what the answer is in, and puts its floats, in order, from
+ * the first of `floats` on; those beyond stay as they were. */
+uint64_t sktelbaan_run(const int32_t *words, size_t words_len, const int32_t *components, size_t count, double floats[4]) SKTELBAAN_NEVER_NULL;
+
+/* How NULL may be passed where a length is 0. In front of the library stands an inline function, which then lends an element of its own, and from here on
+ * the function's name means that inline function: in C and C++, in a call and where its address is taken. The library's symbol keeps the plain name. Who
+ * looks it up by that (another language, dlsym) passes a pointer that is not NULL, even for none. */
+static inline uint64_t sktelbaan_run_lending(const int32_t *words, size_t words_len, const int32_t *components, size_t count, double floats[4]) {
+    const int32_t none = 0;
+    return sktelbaan_run(words_len != 0 ? words : &none, words_len, count != 0 ? components : &none, count, floats);
+}
+#define sktelbaan_run sktelbaan_run_lending
+
+#ifdef __cplusplus
+}
+#endif
+
+#endif

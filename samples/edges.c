@@ -1,0 +1,104 @@
+/* The edges of the C interface, checked: lists of none, the parts of a reply, refusals in words. It is compiled as C and as C++, with the compiler's checks
+ * of addresses and of undefined behaviour, and prints what is not as it should be. */
+#include <stdio.h>
+#include <string.h>
+
+#include "sktelbaan.h"
+
+static int failed = 0;
+
+static void expect(const char *what, int holds) {
+    if (!holds) {
+        printf("edges: %s\n", what);
+        failed = 1;
+    }
+}
+
+/* Each list may be NULL where it has nothing in it. */
+static void none(void) {
+    static const uint8_t page[SKTELBAAN_BLOCK_BYTES] = {0};
+    static const int32_t colour[1] = {500000};
+    static const int32_t recipe[2] = {1, 4};
+    static const int32_t numbers[SKTELBAAN_RECORD_NUMBERS] = {0};
+    static const uint8_t bytes[SKTELBAAN_RECORD_BYTES] = {0};
+    double floats[4] = {-1, -2, -3, -4};
+    double floats_before[4];
+    int32_t words[2] = {7, 8};
+    int32_t read[SKTELBAAN_RECORD_NUMBERS], read_before[SKTELBAAN_RECORD_NUMBERS];
+    uint8_t room[SKTELBAAN_RECORD_BYTES], room_before[SKTELBAAN_RECORD_BYTES];
+    uint32_t gray = SKTELBAAN_DEVICE_GRAY;
+    memcpy(floats_before, floats, sizeof floats);
+    memset(read, 0x55, sizeof read);
+    memset(room, 0x55, sizeof room);
+    memcpy(read_before, read, sizeof read);
+    memcpy(room_before, room, sizeof room);
+
+    expect("validate, no page", sktelbaan_validate(NULL, 0) == SKTELBAAN_REFUSED_LENGTH);
+    expect("evaluate, no page", sktelbaan_evaluate(NULL, 0, gray, colour, 1, floats) == SKTELBAAN_REFUSED_LENGTH);
+    expect("evaluate, no components", sktelbaan_evaluate(page, sizeof page, gray, NULL, 0, floats) == SKTELBAAN_REFUSED_COUNT);
+    expect("evaluate, neither", sktelbaan_evaluate(NULL, 0, gray, NULL, 0, floats) == SKTELBAAN_REFUSED_LENGTH);
+    expect("write_recipe, no page", sktelbaan_write_recipe(NULL, 0, gray, words, 2) == SKTELBAAN_REFUSED_LENGTH);
+    expect("write_recipe, no words", sktelbaan_write_recipe(page, sizeof page, gray, NULL, 0) == SKTELBAAN_REFUSED_ROOM);
+    expect("write_recipe, neither", sktelbaan_write_recipe(NULL, 0, gray, NULL, 0) == SKTELBAAN_REFUSED_LENGTH);
+    expect("run, no words", sktelbaan_run(NULL, 0, colour, 1, floats) == SKTELBAAN_REFUSED_RECIPE);
+    expect("run, no components", sktelbaan_run(recipe, 2, NULL, 0, floats) == SKTELBAAN_REFUSED_COUNT);
+    expect("run, neither", sktelbaan_run(NULL, 0, NULL, 0, floats) == SKTELBAAN_REFUSED_RECIPE);
+    expect("write_block, no block", sktelbaan_write_block(numbers, bytes, NULL, 0) == SKTELBAAN_REFUSED_ROOM);
+    expect("read_block, no block", sktelbaan_read_block(NULL, 0, read, room) == SKTELBAAN_REFUSED_ROOM);
+
+    expect("floats stay", memcmp(floats, floats_before, sizeof floats) == 0);
+    expect("words stay", words[0] == 7 && words[1] == 8);
+    expect("numbers stay", memcmp(read, read_before, sizeof read) == 0);
+    expect("bytes stay", memcmp(room, room_before, sizeof room) == 0);
+}
+
+/* A function whose address is taken is the same function. */
+static void by_address(void) {
+    uint64_t (*validate)(const uint8_t *, size_t) = sktelbaan_validate;
+    uint64_t (*run)(const int32_t *, size_t, const int32_t *, size_t, double *) = &sktelbaan_run;
+    static const int32_t recipe[2] = {1, 4};
+    static const int32_t colour[1] = {500000};
+    double floats[4] = {-1, -2, -3, -4};
+    expect("validate by its address", validate(NULL, 0) == SKTELBAAN_REFUSED_LENGTH);
+    expect("run by its address, no words", run(NULL, 0, NULL, 0, floats) == SKTELBAAN_REFUSED_RECIPE);
+    expect("run by its address", sktelbaan_value(run(recipe, 2, colour, 1, floats)) == SKTELBAAN_GRAY && floats[0] == 0.5 && floats[1] == -2);
+}
+
+/* What is refused and where, or what is given. */
+static void replies(void) {
+    static uint8_t page[2 * SKTELBAAN_BLOCK_BYTES];
+    int32_t words[SKTELBAAN_MOST_WORDS];
+    uint64_t reply = sktelbaan_write_recipe(page, SKTELBAAN_BLOCK_BYTES, SKTELBAAN_DEVICE_CMYK, words, SKTELBAAN_MOST_WORDS);
+    expect("a recipe's reply", sktelbaan_refusal(reply) == 0 && sktelbaan_value(reply) == 18 && sktelbaan_block(reply) == 0);
+    page[2 * SKTELBAAN_BLOCK_BYTES - 1] = 1;
+    reply = sktelbaan_validate(page, sizeof page);
+    expect("a refusal's reply", sktelbaan_refusal(reply) == SKTELBAAN_REFUSED_CHECK && sktelbaan_block(reply) == 1 && sktelbaan_value(reply) == 0);
+}
+
+/* Every refusal has a text of its own, and no other number has one. */
+static void texts(void) {
+    const char *other = sktelbaan_refusal_text(0);
+    for (uint32_t n = SKTELBAAN_REFUSED_LENGTH; n <= SKTELBAAN_REFUSED_RECIPE; n++) {
+        expect("a refusal's text", strcmp(sktelbaan_refusal_text(n), other) != 0);
+        for (uint32_t m = SKTELBAAN_REFUSED_LENGTH; m < n; m++)
+            expect("two refusals' texts", strcmp(sktelbaan_refusal_text(n), sktelbaan_refusal_text(m)) != 0);
+    }
+    expect("the text of 12", strcmp(sktelbaan_refusal_text(SKTELBAAN_REFUSED_RECIPE + 1), other) == 0);
+    expect("the text of the last number", strcmp(sktelbaan_refusal_text(UINT32_MAX), other) == 0);
+}
+
+/* The version's text is its numbers. */
+static void version(void) {
+    char text[64];
+    snprintf(text, sizeof text, "%d.%d.%d", SKTELBAAN_VERSION_MAJOR, SKTELBAAN_VERSION_MINOR, SKTELBAAN_VERSION_PATCH);
+    expect("the version", strcmp(text, SKTELBAAN_VERSION) == 0);
+}
+
+int main(void) {
+    none();
+    by_address();
+    replies();
+    texts();
+    version();
+    return failed;
+}
