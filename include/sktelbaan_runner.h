@@ -72,7 +72,7 @@ enum sktelbaan_refusals {
     SKTELBAAN_REFUSED_COUNT = 9,
     /* Fewer words were lent than the recipe has, or a block was not lent as 512 bytes. */
     SKTELBAAN_REFUSED_ROOM = 10,
-    /* The words are no recipe. */
+    /* The words are not a recipe: how many components it takes, steps, one closing step and nothing more, 1045 words at most. */
     SKTELBAAN_REFUSED_RECIPE = 11
 };
 
@@ -81,15 +81,15 @@ static inline const char *sktelbaan_refusal_text(uint32_t refusal) {
     static const char *const texts[] = {
         "the page is not 1 to 64 blocks of 512 bytes",
         "a block's check is not that of its bytes",
-        "an unknown kind, a wrong number of its own, a byte that should be zero, or a bad name",
+        "a block of unknown kind, with a wrong own number, a byte that should be zero, or a bad name",
         "a white point, black point, gamma, range or hival that PDF does not allow",
         "a gamma or an exponent that is not a whole number from 1 to 4",
         "a reference to no block of the page, or to a kind that may not be used there",
-        "a palette that is too short, has bytes to spare or has no Indexed space, or C0 or C1 beyond the alternate space",
+        "a palette too short, with spare bytes not zero, or of no Indexed space; or C0 or C1 longer than the alternate's colours",
         "the number asked for is neither a device code nor a block with a space",
         "the wrong number of components",
         "too few words for the recipe, or not 512 bytes for a block",
-        "the words are no recipe",
+        "the words are not a well-formed recipe",
     };
     return refusal >= 1 && refusal <= 11 ? texts[refusal - 1] : "not a refusal of this library";
 }

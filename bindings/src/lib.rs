@@ -104,7 +104,7 @@ impl fmt::Display for Answer {
 /// ```
 /// let refusal = sktelbaan::validate(&[0; 100]).unwrap_err();
 /// assert_eq!((refusal.number, refusal.block), (1, 0));
-/// assert_eq!(refusal.to_string(), "refused 1 block 0: the page's length is not 512 x (1..64)");
+/// assert_eq!(refusal.to_string(), "refused 1 block 0: the page is not 1 to 64 blocks of 512 bytes");
 /// ```
 #[derive(Clone, Copy, Debug, PartialEq, Eq, Hash)]
 pub struct Refusal {
@@ -114,29 +114,29 @@ pub struct Refusal {
     pub block: u32,
 }
 
+/// The refusals 1 to 11 in words, as C has them.
+const MEANINGS: [&str; 11] = [
+    "the page is not 1 to 64 blocks of 512 bytes",
+    "a block's check is not that of its bytes",
+    "a block of unknown kind, with a wrong own number, a byte that should be zero, or a bad name",
+    "a white point, black point, gamma, range or hival that PDF does not allow",
+    "a gamma or an exponent that is not a whole number from 1 to 4",
+    "a reference to no block of the page, or to a kind that may not be used there",
+    "a palette too short, with spare bytes not zero, or of no Indexed space; or C0 or C1 longer than the alternate's colours",
+    "the number asked for is neither a device code nor a block with a space",
+    "the wrong number of components",
+    "too few words for the recipe, or not 512 bytes for a block",
+    "the words are not a well-formed recipe",
+];
+
 impl Refusal {
     /// When a refusal of this number is given.
     pub fn meaning(&self) -> &'static str {
-        match self.number {
-            1 => "the page's length is not 512 x (1..64)",
-            2 => "a block's check differs",
-            3 => {
-                "unknown kind, wrong own number, a byte not zero that must be; \
-                 name length not 1..127, or a zero byte in the name"
-            }
-            4 => "a number breaks a clause rule",
-            5 => "a gamma or exponent is beyond the house limit",
-            6 => "a reference to no block of the page, or to a kind not permitted",
-            7 => {
-                "the palette run is short or its spare bytes not zero; a stray palette block; \
-                 C0 or C1 entries past the alternate's count not zero"
-            }
-            8 => "the number asked for is neither a device code nor a block of kinds 1 to 5",
-            9 => "wrong count of components",
-            10 => "lent room shorter than the recipe, or not 512 bytes for a block",
-            11 => "an ill-formed recipe",
-            _ => "not a refusal of this library",
-        }
+        let place = (self.number as usize).wrapping_sub(1);
+        MEANINGS
+            .get(place)
+            .copied()
+            .unwrap_or("not a refusal of this library")
     }
 }
 
@@ -397,5 +397,47 @@ mod tests {
             .map(|number| Refusal { number, block: 0 }.meaning())
             .collect();
         assert_eq!(meanings.len(), 12);
+    }
+
+    /// The C headers, which have the same words and numbers.
+    const HEADERS: &str = concat!(
+        include_str!("../../include/sktelbaan_runner.h"),
+        include_str!("../../include/sktelbaan.h")
+    );
+
+    #[test]
+    fn refusals_have_the_words_of_the_header() {
+        let texts: Vec<&str> = HEADERS
+            .lines()
+            .filter_map(|line| line.trim().strip_prefix('"')?.strip_suffix("\","))
+            .collect();
+        assert_eq!(texts, MEANINGS);
+        let other = Refusal {
+            number: 12,
+            block: 0,
+        }
+        .meaning();
+        assert!(HEADERS.contains(&format!(": \"{other}\";")));
+    }
+
+    #[test]
+    fn numbers_are_those_of_the_header() {
+        for (name, number) in [
+            ("SKTELBAAN_DEVICE_GRAY", DEVICE_GRAY),
+            ("SKTELBAAN_DEVICE_RGB", DEVICE_RGB),
+            ("SKTELBAAN_DEVICE_CMYK", DEVICE_CMYK),
+        ] {
+            assert!(
+                HEADERS.contains(&format!("{name} = 0x{number:X}")),
+                "{name}"
+            );
+        }
+        assert!(HEADERS.contains(&format!("SKTELBAAN_MOST_WORDS = {LONGEST} ")));
+        let version = concat!(
+            "#define SKTELBAAN_VERSION \"",
+            env!("CARGO_PKG_VERSION"),
+            "\"\n"
+        );
+        assert!(HEADERS.contains(version));
     }
 }

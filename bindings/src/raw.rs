@@ -1,5 +1,6 @@
-//! The functions of `include/sktelbaan.h`, as they are. Each takes what it is lent, keeps nothing,
-//! and touches nothing past the lengths that it is given.
+//! The functions of `include/sktelbaan.h`, by their symbols. Each takes what it is lent, keeps
+//! nothing, and touches nothing past the lengths that it is given. No pointer is null, even for none,
+//! as a slice's never is.
 
 extern "C" {
     pub fn sktelbaan_validate(page: *const u8, page_len: usize) -> u64;
