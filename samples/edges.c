@@ -1,4 +1,4 @@
-/* The edges of the C interface, checked: lists of none, the parts of a reply, refusals in words. It is compiled as C and as C++, with the compiler's checks
+/* The edges of the C interface, checked: lists of none, the parts of a reply, refusals in words, sizes, a record of each kind. It is compiled as C and as C++, with the compiler's checks
  * of addresses and of undefined behaviour, and prints what is not as it should be. */
 #include <stdio.h>
 #include <string.h>
@@ -87,6 +87,53 @@ static void texts(void) {
     expect("the text of the last number", strcmp(sktelbaan_refusal_text(UINT32_MAX), other) == 0);
 }
 
+/* The most blocks and the most words are those: one more is refused for it. */
+static void sizes(void) {
+    static uint8_t page[(SKTELBAAN_MOST_BLOCKS + 1) * SKTELBAAN_BLOCK_BYTES];
+    static int32_t words[SKTELBAAN_MOST_WORDS + 1];
+    static const int32_t colour[1] = {0};
+    double floats[4] = {0};
+    uint64_t reply = sktelbaan_validate(page, sizeof page - SKTELBAAN_BLOCK_BYTES);
+    expect("the most blocks", sktelbaan_refusal(reply) == SKTELBAAN_REFUSED_LAYOUT && sktelbaan_block(reply) == 1);
+    expect("a block more", sktelbaan_validate(page, sizeof page) == SKTELBAAN_REFUSED_LENGTH);
+
+    /* One component, limited to 0..0 again and again; then CalGray's closing step of four words, or a step more and Gray's of one. */
+    words[0] = 1;
+    for (int i = 1; i < SKTELBAAN_MOST_WORDS; i += 4)
+        words[i] = 1;
+    words[SKTELBAAN_MOST_WORDS - 4] = 7;
+    words[SKTELBAAN_MOST_WORDS - 1] = 1000000;
+    expect("the most words", sktelbaan_value(sktelbaan_run(words, SKTELBAAN_MOST_WORDS, colour, 1, floats)) == SKTELBAAN_XYZ);
+    words[SKTELBAAN_MOST_WORDS - 4] = 1;
+    words[SKTELBAAN_MOST_WORDS] = 4;
+    expect("a word more", sktelbaan_run(words, SKTELBAAN_MOST_WORDS + 1, colour, 1, floats) == SKTELBAAN_REFUSED_RECIPE);
+    words[4] = 1;
+    expect("the same with a step less", sktelbaan_value(sktelbaan_run(words + 4, SKTELBAAN_MOST_WORDS - 3, colour, 1, floats)) == SKTELBAAN_GRAY);
+}
+
+/* A record of each kind is written as a block of that kind, and read back as it was. */
+static void records(void) {
+    static const int32_t rows[][SKTELBAAN_RECORD_NUMBERS] = {
+        {5, SKTELBAAN_KIND_FREE},
+        {5, SKTELBAAN_KIND_CALGRAY, 950500, 1000000, 1089000, 0, 0, 0, 4000000},
+        {5, SKTELBAAN_KIND_CALRGB, 950500, 1000000, 1089000, 0, 0, 0, 1000000, 2000000, 3000000, 1, 2, 3, 4, 5, 6, 7, 8, 9},
+        {5, SKTELBAAN_KIND_LAB, 950500, 1000000, 1089000, 0, 0, 0, -100000000, 100000000, -128000000, 127000000},
+        {5, SKTELBAAN_KIND_INDEXED, SKTELBAAN_DEVICE_RGB, 255},
+        {5, SKTELBAAN_KIND_SEPARATION, SKTELBAAN_DEVICE_CMYK, 4, 4, 1, 2, 3, 4, 5, 6, 7, 8},
+        {5, SKTELBAAN_KIND_PALETTE},
+    };
+    for (int32_t kind = SKTELBAAN_KIND_FREE; kind <= SKTELBAAN_KIND_PALETTE; kind++) {
+        uint8_t bytes[SKTELBAAN_RECORD_BYTES] = {0}, block[SKTELBAAN_BLOCK_BYTES], found[SKTELBAAN_RECORD_BYTES];
+        int32_t numbers[SKTELBAAN_RECORD_NUMBERS];
+        if (kind == SKTELBAAN_KIND_SEPARATION)
+            memcpy(bytes, "Gold", 4);
+        expect("a record is written", sktelbaan_write_block(rows[kind], bytes, block, sizeof block) == 0);
+        expect("it is of its kind", block[0] == kind && block[3] == 5);
+        expect("it is read", sktelbaan_read_block(block, sizeof block, numbers, found) == 0);
+        expect("as it was", memcmp(numbers, rows[kind], sizeof numbers) == 0 && memcmp(found, bytes, sizeof found) == 0);
+    }
+}
+
 /* The version's text is its numbers. */
 static void version(void) {
     char text[64];
@@ -99,6 +146,8 @@ int main(void) {
     by_address();
     replies();
     texts();
+    sizes();
+    records();
     version();
     return failed;
 }
