@@ -85,16 +85,25 @@ unfoldable pub share : Bool → ℤ → Float → ℤ → Float → Float
 share t v top low bottom = cond t (cubed (div binary64 (ofInt binary64 v) top)) (div binary64 (ofInt binary64 low) bottom)
 
 -- first: if p >= 3000000000, p / 14500000000 cubed; else 108 (p - 2000000000) / 12194500000000
+abbrev pub firstCubed : ℤ → Bool
+firstCubed p = leZ (pos 3000000000) p
+
 unfoldable pub first : ℤ → Float
-first p = share (leZ (pos 3000000000) p) p (whole 14500000000) (pos 108 *ℤ (p -ℤ pos 2000000000)) (whole 12194500000000)
+first p = share (firstCubed p) p (whole 14500000000) (pos 108 *ℤ (p -ℤ pos 2000000000)) (whole 12194500000000)
 
 -- second: if l >= 8000000, (l + 16000000) / 116000000 cubed; else 108 l / 97556000000
+abbrev pub secondCubed : ℤ → Bool
+secondCubed l = leZ (pos 8000000) l
+
 unfoldable pub second : ℤ → Float
-second l = share (leZ (pos 8000000) l) (l +ℤ pos 16000000) (whole 116000000) (pos 108 *ℤ l) (whole 97556000000)
+second l = share (secondCubed l) (l +ℤ pos 16000000) (whole 116000000) (pos 108 *ℤ l) (whole 97556000000)
 
 -- third: if n >= 1200000000, n / 5800000000 cubed; else 108 (n - 800000000) / 4877800000000
+abbrev pub thirdCubed : ℤ → Bool
+thirdCubed n = leZ (pos 1200000000) n
+
 unfoldable pub third : ℤ → Float
-third n = share (leZ (pos 1200000000) n) n (whole 5800000000) (pos 108 *ℤ (n -ℤ pos 800000000)) (whole 4877800000000)
+third n = share (thirdCubed n) n (whole 5800000000) (pos 108 *ℤ (n -ℤ pos 800000000)) (whole 4877800000000)
 
 -- X = float(XW) g of the first, Y = g of the second, Z = float(ZW) g of the third
 abbrev pub labOf : Xyz → ℤ → ℤ → ℤ → Xyz

@@ -54,7 +54,9 @@ paper =
       gray-minus-3 = gray-minus-3;
       lab-100 = λ k al ah bl bh wa wb. lab-100 k al ah bl bh wa wb;
       lab-0 = λ k al ah bl bh wx wz wa wb. lab-0 k al ah bl bh wa wb wx wz;
+      lab-8-branches = record { by-first = refl; by-second = refl; by-third = refl };
       lab-8 = at-8;
+      lab-below-8-branches = record { by-first = refl; by-second = refl; by-third = refl };
       lab-below-8 = below-8;
       index-2-5 = row-3;
       index-minus-0-5 = row-0;

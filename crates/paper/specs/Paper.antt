@@ -1,6 +1,6 @@
 -- Document 01, "On either side of the line": "Marked P: one statement over all of them together, shown from the definitions." Its lines, in its order.
 use mathlib.Core.Path.{_≡_}
-use mathlib.Core.Bool.{true, false}
+use mathlib.Core.Bool.{Bool, true, false}
 use mathlib.Core.List.{List, [], _∷_}
 use Prim.Native.Nat.{ℕ, _≤_, _<_}
 use lib.IntN.{ℤ, pos, negsuc}
@@ -14,7 +14,7 @@ use Rattle.fixed.specs.Bytes.{blocks, twoAt}
 use Rattle.fixed.specs.Values.{value, indexOf, tintStep}
 use Rattle.cie.specs.declared.LabClosing.{LabClosing}
 use Rattle.cie.specs.Answers.{answer, inXyz}
-use Rattle.cie.specs.Steps.{whole, cubed, labP, labN, first, second, third}
+use Rattle.cie.specs.Steps.{whole, cubed, labP, labN, firstCubed, secondCubed, thirdCubed, first, second, third}
 use Rattle.record.specs.declared.types.Body.the-variants.{Free, CalGray}
 use Rattle.record.specs.declared.types.Record.{Record}
 use Rattle.record.specs.Layout.{headOf, plain, weighed, blockOf}
@@ -71,6 +71,12 @@ pub record White (v : ℤ) : Type 0 where
   pub above : ltZ (pos 0) v ≡ true
   pub number : SFits w32 v
 
+-- what the tests of the three Lab branches come to at l with a = b = 0: cubed or not
+pub record Branches (l : ℤ) (is-cubed : Bool) : Type 0 where
+  pub by-first : firstCubed (labP l (pos 0)) ≡ is-cubed
+  pub by-second : secondCubed l ≡ is-cubed
+  pub by-third : thirdCubed (labN l (pos 0)) ≡ is-cubed
+
 pub record Paper : Type 0 where
   -- "free block 5 has check 5 and 2525"
   pub free-check : Check free5 5 2525
@@ -89,9 +95,11 @@ pub record Paper : Type 0 where
   -- "(0,0,0): zeros". For every white point that the clause permits
   pub lab-0 : (k : LabClosing) (al ah bl bh : ℤ) → White (k .xw) → White (k .zw) → Within al ah → Within bl bh
       → answered (lab k al ah bl bh) (pos 0 ∷ pos 0 ∷ pos 0 ∷ []) ≡ answer inXyz (nought ∷ nought ∷ nought ∷ [])
-  -- "L* 8 with a = b = 0 is cubed in all three"
+  -- "L* 8 with a = b = 0 is cubed in all three": each test passes there, on whole numbers, and each float is the cube of its ratio
+  pub lab-8-branches : Branches (pos 8000000) true
   pub lab-8 : (first (labP (pos 8000000) (pos 0)) ≡ cubed (ratio 3000000000 14500000000)) × (second (pos 8000000) ≡ cubed (ratio 24000000 116000000)) × (third (labN (pos 8000000) (pos 0)) ≡ cubed (ratio 1200000000 5800000000))
-  -- "7.999999 in none": each is 108 times what is left, over its divisor
+  -- "7.999999 in none": no test passes there, and each float is 108 times what is left, over its divisor
+  pub lab-below-8-branches : Branches (pos 7999999) false
   pub lab-below-8 : (first (labP (pos 7999999) (pos 0)) ≡ ratio 107999986500 12194500000000) × (second (pos 7999999) ≡ ratio 863999892 97556000000) × (third (labN (pos 7999999) (pos 0)) ≡ ratio 43199994600 4877800000000)
   -- "index 2.5, hival 3 or more, picks row 3"
   pub index-2-5 : (hival : ℕ) → 3 ≤ hival → indexOf (pos 2500000) hival ≡ 3

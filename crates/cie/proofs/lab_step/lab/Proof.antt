@@ -1,13 +1,12 @@
 -- `cie::lab_step::lab` meets its contract. Each step on whole numbers is answered by its expression (`Exp`), and each float by what `share_of` ensures.
 -- Assumes nothing.
 use mathlib.Core.Path.{_≡_, refl, _∙_}
-use lib.IntN.{ℤ, pos}
+use lib.IntN.{ℤ}
 use lib.Ieee.{binary64, ofInt, ofBits}
 use mir.Syntax.{w32}
 use mir.Val.{SFits}
 use mir.Facts.{toZ-ofZ}
-use lib.Signed.{leZ}
-use Rattle.cie.specs.Steps.{first, second, third, share, whole}
+use Rattle.cie.specs.Steps.{firstCubed, secondCubed, thirdCubed, first, second, third, share, whole}
 use Rattle.cie.proofs.Exp.{Exp, i32, num, _⊕_, _⊖_, _⊗_, fits, is, floats}
 use Rattle.cie.proofs.lab_step.lab.Statement.{statement}
 use Rattle.cie.proofs.lab_step.lab.Tie as tie
@@ -54,11 +53,11 @@ returns c =
     let f = d .before .before .before .fits in
     rw (
       d .before .before .share-of .ensures
-          ∙ (λ i. share (leZ (pos 3000000000) (is (P (f .l) (f .a)) tt i)) (is (P (f .l) (f .a)) tt i) (x-lits .0 i) (is (P₀ (f .l) (f .a)) tt i) (x-lits .1 i)),
+          ∙ (λ i. share (firstCubed (is (P (f .l) (f .a)) tt i)) (is (P (f .l) (f .a)) tt i) (x-lits .0 i) (is (P₀ (f .l) (f .a)) tt i) (x-lits .1 i)),
       d .before .share-of2 .ensures
-          ∙ (λ i. share (leZ (pos 8000000) (toZ-ofZ (f .l) i)) (is (M (f .l)) tt i) (y-lits .0 i) (is (L (f .l)) tt i) (y-lits .1 i)),
+          ∙ (λ i. share (secondCubed (toZ-ofZ (f .l) i)) (is (M (f .l)) tt i) (y-lits .0 i) (is (L (f .l)) tt i) (y-lits .1 i)),
       d .share-of3 .ensures
-          ∙ (λ i. share (leZ (pos 1200000000) (is (N (f .l) (f .b)) tt i)) (is (N (f .l) (f .b)) tt i) (z-lits .0 i) (is (N₀ (f .l) (f .b)) tt i) (z-lits .1 i)),
+          ∙ (λ i. share (thirdCubed (is (N (f .l) (f .b)) tt i)) (is (N (f .l) (f .b)) tt i) (z-lits .0 i) (is (N₀ (f .l) (f .b)) tt i) (z-lits .1 i)),
     )
 
 pub lab-spec : {M : Type 1} → statement M
