@@ -5,7 +5,7 @@ use mathlib.Core.List.{List}
 use Prim.Native.Nat.{ℕ, _+_, _*_, _/_, _≤_, _<_}
 use native.Mathlib.Decide.{decLt}
 use native.Mathlib.Omega.{arith}
-use borrow.Author.Tests.{eqb-true, ltb-true, ltb-false, lt-ltb}
+use borrow.Author.Tests.{eqb-true, ltb-true, ltb-false, lt-ltb, leb-true}
 use lib.Dec.{eqb, ltb}
 use lib.ListN.{length, List·getD-eq-default}
 use lib.Seq.{getD-drop}
@@ -14,7 +14,7 @@ use Rattle.fixed.proofs.Decide.{cond-ind, passed, and-left, and-right}
 use Rattle.fixed.proofs.Scans.{first-none, first-all}
 use Rattle.record.specs.Layout.{checked}
 use Rattle.record.specs.Reading.{ownAt, bodyAt}
-use Rattle.record.specs.Rules.{formed, lawful, supported}
+use Rattle.record.specs.Rules.{known, formed, lawful, supported}
 use Rattle.space.specs.Numbers.{kindAt}
 use Rattle.page.specs.Outcomes.{Outcome, accepted, refused}
 use Rattle.page.specs.Validation.{wellSized, faultOne, faultTwo, faultOwed, owedAt, permitted, held, passes, validated}
@@ -104,6 +104,15 @@ module _ (page : List ℕ) (ok : validated page ≡ accepted) where
   past n l =
       let o : length page ≤ 512 * n + 0 = omega (arith, sized-whole _ well-sized) in
       getD-drop (512 * n) page 0 0 ∙ List·getD-eq-default page 0 o
+
+  -- byte 0 of each block is a known kind, and 0 past the page
+  pub kind-known : (n : ℕ) → byteAt (blockAt page n) 0 ≤ 6
+  unfolding formed known
+  kind-known n = within (decLt n (length page / 512))
+    where
+      within : Dec (n < length page / 512) → byteAt (blockAt page n) 0 ≤ 6
+      within (yes w) = leb-true _ 6 (and-left _ _ (and-left (known (blockAt page n)) _ (formed-at n w)))
+      within (no w) = omega (arith, past n (omega arith))
 
   -- a block that the page does not have is of kind 0, so a number below 64 of another kind is a block of the page
   pub kind-past : (n : ℕ) → length page / 512 ≤ n → n < blocks → kindAt page n ≡ 0

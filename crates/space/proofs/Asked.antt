@@ -1,20 +1,16 @@
 -- Refusal 8: "the number asked for is neither a device code nor a block of kinds 1 to 5". Such a number is just one whose space is none.
 use mathlib.Core.Path.{_≡_, refl, sym, ap, _∙_}
-use mathlib.Core.Bool.{Bool, true, false, _&&_, _||_, cond}
+use mathlib.Core.Bool.{Bool, true, false, _&&_, _||_}
 use mathlib.Core.List.{List}
-use Prim.Native.Nat.{ℕ, _≤_, _<_}
+use Prim.Native.Nat.{ℕ, _≤_}
 use native.Mathlib.Omega.{arith}
 use lib.Dec.{eqb, ltb, leb}
-use borrow.Author.Tests.{eqb-true, eqb-false, ne-eqb, ltb-true, ltb-false, leb-true, lt-leb, le-leb}
+use borrow.Author.Tests.{eqb-true, eqb-false, ne-eqb, ltb-true, ltb-false, leb-true}
 use Rattle.fixed.specs.Bytes.{blocks, device, grayCode, rgbCode, cmykCode, blockAt, byteAt}
-use Rattle.space.specs.Numbers.{kindAt}
+use Rattle.space.specs.Numbers.{kindAt, asked}
 use Rattle.space.specs.Spaces.{countOf}
 use Rattle.space.specs.Pages.{plainBy, tintedBy, spaceBy, spaceAt}
 use Rattle.space.proofs.ByKind.{none-at}
-
--- a device code, or a block of kinds 1 to 5
-abbrev pub asked : List ℕ → ℕ → Bool
-asked page n = device n || (ltb n blocks && (leb 1 (byteAt (blockAt page n) 0) && leb (byteAt (blockAt page n) 0) 5))
 
 -- kinds 1 to 5
 abbrev listed : ℕ → Bool
@@ -60,7 +56,7 @@ module _ (page : List ℕ) (n : ℕ) where
 
   -- a block's kind is a byte, and no device code is below 64 or a byte
   by-size : (t : Bool) → ltb n blocks ≡ t → byteAt (blockAt page n) 0 ≤ 255 → ltb 0 (countOf (spaceAt page n)) ≡ asked page n
-  unfolding kindAt
+  unfolding kindAt asked
   by-size true e h =
       let l = ltb-true n blocks e in
       let b = byteAt (blockAt page n) 0 in

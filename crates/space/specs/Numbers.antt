@@ -1,13 +1,17 @@
 -- FORMAT.md, References: what a number is, as a reference has it or as it is asked for: a block's number, or a device code.
 use Prim.Native.Nat.{ℕ, _+_, _/_, _%_}
-use mathlib.Core.Bool.{cond}
+use mathlib.Core.Bool.{Bool, _&&_, _||_, cond}
 use mathlib.Core.List.{List}
-use lib.Dec.{ltb, eqb}
-use Rattle.fixed.specs.Bytes.{blocks, blockAt, byteAt, twoAt}
+use lib.Dec.{ltb, leb, eqb}
+use Rattle.fixed.specs.Bytes.{blocks, device, blockAt, byteAt, twoAt}
 
 -- the kind of a number: a block's kind byte, 0 past the page; a number that can be no block's is its own kind, so a device code is
 unfoldable pub kindAt : List ℕ → ℕ → ℕ
 kindAt page n = cond (ltb n blocks) (byteAt (blockAt page n) 0) n
+
+-- FORMAT.md, Refusals: a device code, or a block of kind 1 to 5; a number asked for that is neither meets refusal 8
+unfoldable pub asked : List ℕ → ℕ → Bool
+asked page n = device n || (ltb n blocks && (leb 1 (byteAt (blockAt page n) 0) && leb (byteAt (blockAt page n) 0) 5))
 
 -- FORMAT.md, References: "nesting falls at each step". Indexed 2, Separation 1, all others 0
 unfoldable pub rankAt : List ℕ → ℕ → ℕ
