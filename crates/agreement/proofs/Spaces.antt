@@ -53,7 +53,7 @@ lab-range al ah bl bh p q (suc (suc k)) =
 
 -- ---- a space that is well made has components
 
-pub count-low : (s : Space) → Whole s → 1 ≤ countOf s
+count-low : (s : Space) → Whole s → 1 ≤ countOf s
 unfolding Whole
 count-low none w = absurd w
 count-low gray w = omega arith

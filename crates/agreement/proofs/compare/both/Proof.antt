@@ -7,7 +7,7 @@ use lib.Seq.{length-take-le}
 use denote.Ref.{now}
 use Rattle.runner.specs.Runs.{ran}
 use Rattle.recipe.specs.Writes.{meaning as wroteOf}
-use Rattle.agreement.proofs.Pages.{wrote-room, wrote-replies}
+use Rattle.agreement.proofs.Written.{wrote-room, wrote-replies}
 use borrow.Author.Needs.{needs}
 use Rattle.agreement.proofs.compare.both.Statement.{statement}
 use Rattle.agreement.proofs.compare.both.Tie as tie
@@ -24,11 +24,21 @@ enum-known-written c = search needs
 cast-run : tie.Need-cast-run
 cast-run c = search needs
 
+-- as many words were written as are lent to `run`
 slice-reshare-prefix-run : tie.Need-slice-reshare-prefix-run
-slice-reshare-prefix-run c = rw (c .before .before .before .before .write .ensures .1) (wrote-room (now (c .before .before .before .before .before .before .before .before .args .page)) (c .before .before .before .before .before .before .before .before .args .number) (now (c .before .before .before .before .before .before .before .before .args .words)) _ (sym (ap wroteOf (c .before .written .given .1)) ∙ c .before .before .before .before .write .ensures .0))
+slice-reshare-prefix-run c =
+    let writing = c .before .before .before .before in
+    let args = writing .before .before .before .before .args in
+    let said = sym (ap wroteOf (c .before .written .given .1)) ∙ writing .write .ensures .0 in
+    rw (writing .write .ensures .1) (wrote-room (now (args .page)) (args .number) (now (args .words)) _ said)
 
 slice-aggregate-run : tie.Need-slice-aggregate-run
-slice-aggregate-run c = sym (length-take-le _ _ (rw (c .before .before .before .before .before .write .ensures .1) (wrote-room (now (c .before .before .before .before .before .before .before .before .before .args .page)) (c .before .before .before .before .before .before .before .before .before .args .number) (now (c .before .before .before .before .before .before .before .before .before .args .words)) _ (sym (ap wroteOf (c .before .before .written .given .1)) ∙ c .before .before .before .before .before .write .ensures .0))))
+slice-aggregate-run c =
+    let matched = c .before .before in
+    let writing = matched .before .before .before in
+    let args = writing .before .before .before .before .args in
+    let said = sym (ap wroteOf (matched .written .given .1)) ∙ writing .write .ensures .0 in
+    sym (length-take-le _ _ (rw (writing .write .ensures .1) (wrote-room (now (args .page)) (args .number) (now (args .words)) _ said)))
 
 run-requires : tie.Need-run-requires
 run-requires c κs = search needs
@@ -41,25 +51,24 @@ same-length c = search needs
 
 returns : tie.Need-returns
 returns c =
-    let e = sym (ap wroteOf (c .before .before .before .written .given .1)) ∙ c .before .before .before .before .before .before .write .ensures .0 in
-    let n = c .before .before .before .written .given .0 .0 in (
-      e,
-      (
-        c .before .before .before .before .before .before .write .ensures .1,
-        (
-          c .before .before .before .before .before .before .before .before .evaluate .ensures,
-          c .run .ensures ∙ (ap (λ (l : List ℤ). ran (take n l) (now (c .before .before .before .before .before .before .before .before .before .before .args .components))) (c .before .before .before .before .before .before .write .ensures .1)
-              ∙ (wrote-replies (now (c .before .before .before .before .before .before .before .before .before .before .args .page)) (c .before .before .before .before .before .before .before .before .before .before .args .number) (now (c .before .before .before .before .before .before .before .before .before .before .args .words)) n e (now (c .before .before .before .before .before .before .before .before .before .before .args .components)) ∙ sym (c .before .before .before .before .before .before .before .before .evaluate .ensures))),
-        ),
-      ),
-    )
+    let matched = c .before .before .before in
+    let writing = matched .before .before .before in
+    let evaluating = writing .before .before in
+    let args = evaluating .before .before .args in
+    let n = matched .written .given .0 .0 in
+    let said = sym (ap wroteOf (matched .written .given .1)) ∙ writing .write .ensures .0 in
+    let held = ap (λ (l : List ℤ). ran (take n l) (now (args .components))) (writing .write .ensures .1) in
+    let replied = wrote-replies (now (args .page)) (args .number) (now (args .words)) n said (now (args .components)) in
+    (said, (writing .write .ensures .1, (evaluating .evaluate .ensures, c .run .ensures ∙ (held ∙ (replied ∙ sym (evaluating .evaluate .ensures))))))
 
 same-length-2 : tie.Need-same-length-2
 same-length-2 c = search needs
 
 returns-2 : tie.Need-returns-2
 returns-2 c =
-    (sym (ap wroteOf (c .before .written2 .given .1)) ∙ c .before .before .before .before .write .ensures .0, (c .before .before .before .before .write .ensures .1, (c .before .before .before .before .before .before .evaluate .ensures, refl)))
+    let writing = c .before .before .before .before in
+    let said = sym (ap wroteOf (c .before .written2 .given .1)) ∙ writing .write .ensures .0 in
+    (said, (writing .write .ensures .1, (writing .before .before .evaluate .ensures, refl)))
 
 pub both-spec : {M : Type 1} → statement M
 both-spec =
