@@ -1,29 +1,12 @@
 //! Cases of pages: operation 30 validates one, operation 34 lists one.
 
-use super::{Case, Maker};
+use super::format::Case;
+use super::maker::Maker;
 use crate::block::{Body, Record, BLOCK, BODY, DEVICE_CMYK, DEVICE_GRAY, DEVICE_RGB, MOST_BLOCKS};
 use crate::numbers::ONE;
 use crate::records::{
     cal_gray, cal_rgb, changed, free, indexed, indexed_run, lab, page, palette, separation, USUAL,
 };
-
-impl Maker {
-    /// Validates a page.
-    pub(super) fn validate(&mut self, label: &str, page: &[u8]) {
-        self.add(30, label, &[], Some(page));
-    }
-
-    /// Lists a page.
-    fn list(&mut self, label: &str, page: &[u8]) {
-        self.add(34, label, &[], Some(page));
-    }
-
-    /// Validates a page and lists it.
-    pub(super) fn validate_and_list(&mut self, label: &str, page: &[u8]) {
-        self.validate(label, page);
-        self.list(&format!("{label}, listed"), page);
-    }
-}
 
 /// A page of this many free blocks.
 pub(super) fn all_free(count: usize) -> Vec<u8> {

@@ -2,8 +2,9 @@
 //! marked P are among them: the other program proves those, and runs them here too.
 
 use super::colours::counting;
+use super::format::Case;
+use super::maker::Maker;
 use super::pages::{all_free, run_page};
-use super::{Case, Maker};
 use crate::block::{BLOCK, DEVICE_CMYK, DEVICE_GRAY};
 use crate::numbers::ONE;
 use crate::records::{cal_gray, cal_rgb, changed, indexed_run, lab, page, separation, USUAL};

@@ -1,0 +1,376 @@
+//! The cases are well-formed, say what the paper says, and reach every refusal.
+
+use super::format::{answer_text, bytes_of, decimal, numbers_of};
+use super::interpreter::{record_of, words_of};
+use super::*;
+use crate::block::BODY;
+use crate::cie::Answer;
+use std::collections::{BTreeSet, HashSet};
+
+fn reply(label: &str) -> String {
+    let case = all().into_iter().find(|case| case.label == label);
+    case.and_then(|case| case.result()).unwrap()
+}
+
+/// The reply of a case of this operation.
+fn reply_of(op: u32, label: &str) -> String {
+    let mut cases = all().into_iter();
+    let case = cases.find(|case| case.op == op && case.label == label);
+    case.and_then(|case| case.result()).expect(label)
+}
+
+fn ops(cases: &[Case]) -> Vec<u32> {
+    let ops: BTreeSet<u32> = cases.iter().map(|case| case.op).collect();
+    ops.into_iter().collect()
+}
+
+#[test]
+fn the_cases_are_well_formed() {
+    let cases = all();
+    let mut labels = HashSet::new();
+    for case in &cases {
+        assert!(!case.label.is_empty() && case.label.len() <= 100);
+        assert!(!case.label.contains([':', '\n']));
+        assert!(labels.insert(case.label.clone()), "{}", case.label);
+        assert!(case.result().is_some(), "{}", case.label);
+        assert!(case.args.len() <= 23, "{}", case.label);
+        assert!(case.input_line().len() <= 65_000, "{}", case.label);
+        assert!(case.output_line().len() <= 65_000, "{}", case.label);
+    }
+    assert_eq!(ops(&paper::cases()), [30, 31, 32, 33, 34]);
+    assert_eq!(ops(&numbers::cases()), (1..=13).collect::<Vec<_>>());
+    assert_eq!(ops(&blocks::cases()), [20, 21]);
+    assert_eq!(ops(&forms::cases()), [20, 21]);
+    assert_eq!(ops(&pages::cases()), [30, 34]);
+    assert_eq!(ops(&colours::cases()), [31, 33]);
+    assert_eq!(ops(&recipes::cases()), [31, 32, 33]);
+    assert_eq!(ops(&runs::cases()), [33]);
+    assert_eq!(input_text(&cases).lines().count(), cases.len());
+    assert_eq!(output_text(&cases).lines().count(), cases.len());
+}
+
+/// A line's case, read as the program reads it.
+fn parse(line: &str) -> Case {
+    let (label, rest) = line.split_once(": ").unwrap();
+    let mut words = rest.split(' ');
+    let op = words.next().unwrap().parse().unwrap();
+    let (mut args, mut bytes) = (Vec::new(), None);
+    for word in words {
+        assert_eq!(bytes, None);
+        match word.strip_prefix('x') {
+            None => args.push(word.parse().unwrap()),
+            Some(text) => {
+                let mut text = text.chars();
+                let mut read = Vec::new();
+                while let Some(first) = text.next() {
+                    if first == '.' {
+                        read.push(0);
+                        continue;
+                    }
+                    let digits = [first, text.next().unwrap()];
+                    let [high, low] = digits.map(|digit| digit.to_digit(16).unwrap() as u8);
+                    read.push(16 * high + low);
+                }
+                bytes = Some(read);
+            }
+        }
+    }
+    let label = label.to_string();
+    Case {
+        label,
+        op,
+        args,
+        bytes,
+    }
+}
+
+#[test]
+fn lines_are_read_back() {
+    for case in all() {
+        assert_eq!(parse(&case.input_line()), case);
+    }
+    let both = parse("a label: 30 x.0000.ff.0a");
+    assert_eq!(both.bytes, Some(vec![0, 0, 0, 0, 255, 0, 10]));
+}
+
+#[test]
+fn every_refusal_is_reached() {
+    let cases = all();
+    let replies: Vec<(u32, String)> = cases
+        .iter()
+        .map(|case| (case.op, case.result().unwrap()))
+        .collect();
+    let met = |op: u32, number: u32| {
+        let text = format!("refused {number}");
+        let is = |reply: &str| reply == text || reply.starts_with(&format!("{text} "));
+        replies.iter().any(|(of, reply)| *of == op && is(reply))
+    };
+    for (op, expected) in [
+        (20, &[2, 3, 4, 5, 6, 10][..]),
+        (21, &[3, 4, 5, 6]),
+        (30, &[1, 2, 3, 4, 5, 6, 7]),
+        (31, &[1, 2, 7, 8, 9]),
+        (32, &[1, 2, 8, 10]),
+        (33, &[9, 11]),
+        (34, &[1, 2, 4]),
+    ] {
+        let found: Vec<u32> = (1..=11).filter(|number| met(op, *number)).collect();
+        assert_eq!(found, expected, "operation {op}");
+    }
+    // A refusal of writing keeps every byte and word.
+    for (op, reply) in &replies {
+        if *op == 21 && reply.starts_with("refused") {
+            assert!(reply.ends_with(" kept"), "{reply}");
+        }
+        if *op == 32 {
+            assert!(reply.contains(" kept"), "{reply}");
+        }
+    }
+}
+
+#[test]
+fn a_recipe_replies_what_its_page_replies() {
+    let cases = all();
+    let mut compared = 0;
+    for case in cases.iter().filter(|case| case.op == 33) {
+        if let Some(label) = case.label.strip_suffix(", by its recipe") {
+            assert_eq!(case.result().unwrap(), reply_of(31, label), "{label}");
+            compared += 1;
+        }
+    }
+    assert!(compared > 100, "{compared}");
+}
+
+#[test]
+fn group_replies_worked_by_hand() {
+    let white = answer_text(&Answer::Xyz([0.9505, 1.0, 1.089]));
+    let zeros = answer_text(&Answer::Xyz([0.0; 3]));
+    for (op, label, expected) in [
+        (20, "an all-zero block 0", "0 0"),
+        (20, "free block 5 has check 5 and 2525, read", "5 0"),
+        (
+            20,
+            "CalGray block 0, white 0.9505 1 1.089, black 0, gamma 1, read",
+            "0 1 950500 1000000 1089000 0 0 0 1000000",
+        ),
+        (
+            20,
+            "CalGray gamma 4 is fine, read",
+            "0 1 950500 1000000 1089000 0 0 0 4000000",
+        ),
+        (20, "CalGray gamma 1.8 gives 5, read", "refused 5"),
+        (21, "CalGray gamma 0 gives 4, written", "refused 4 kept"),
+        (21, "CalRGB gamma 0 gives 5, written", "refused 5 kept"),
+        (21, "hival 256 gives 4, written", "refused 4 kept"),
+        (20, "Indexed base 63, read", "1 4 63 9"),
+        (20, "Indexed base 64, read", "refused 6"),
+        (
+            20,
+            "FFFF stored where the sum's check 0 is due",
+            "refused 2",
+        ),
+        (30, "65 blocks give 1", "refused 1 block 0"),
+        (30, "64 blocks are judged", "accepted"),
+        (
+            30,
+            "a fault for 7 in block 1 and one for 2 in block 3",
+            "refused 2 block 3",
+        ),
+        (
+            30,
+            "a fault for 7 in block 1 and one for 4 in block 3",
+            "refused 7 block 1",
+        ),
+        (
+            30,
+            "a fault for 3 in block 1 and one for 2 in block 3",
+            "refused 3 block 1",
+        ),
+        (
+            30,
+            "a short run is the Indexed block's fault",
+            "refused 7 block 2",
+        ),
+        (
+            30,
+            "a spare byte is the Indexed block's fault",
+            "refused 7 block 2",
+        ),
+        (30, "a palette block after a full run", "refused 7 block 2"),
+        (
+            30,
+            "a reference to a block that is faulty",
+            "refused 5 block 1",
+        ),
+        (30, "a reference from block 0 to block 63", "accepted"),
+        (
+            30,
+            "a reference from block 0 to block 64 of 64",
+            "refused 6 block 0",
+        ),
+        (
+            34,
+            "the CalGray page of the paper, listed",
+            "blocks 1; 0 CalGray 1 9",
+        ),
+        (
+            34,
+            "the CalGray page with a wrong check, listed",
+            "refused 2 block 0",
+        ),
+        (
+            34,
+            "hival 255 over CMYK, 1024 palette bytes, three blocks, listed",
+            "blocks 4; 0 Indexed 1 1045",
+        ),
+        (
+            31,
+            "CalGray, its colour 1 gives the white point's floats",
+            &white,
+        ),
+        (31, "CalGray, -3 gives zeros", &zeros),
+        (
+            33,
+            "Lab (100,0,0), the white point's floats, by its recipe",
+            &white,
+        ),
+        (33, "Lab (0,0,0), zeros, by its recipe", &zeros),
+        (
+            31,
+            "tint 0.375 of -1 to 3, the result is limited, not C0 and C1",
+            "Gray 3fe0000000000000",
+        ),
+        (31, "5 components for DeviceCMYK", "refused 9 block 0"),
+        (31, "the page's refusal before 8", "refused 2 block 4"),
+        (
+            32,
+            "recipe of Gray 6, a word short",
+            "refused 10 block 0 kept",
+        ),
+        (
+            32,
+            "recipe of Gray 6, a word more",
+            "words 6 kept 1 1 0 0 1000000 4",
+        ),
+        (33, "no step at all is well-formed", "Gray c01c000000000000"),
+        (
+            33,
+            "a run of 1046 words, the most being 1045",
+            "refused 11 block 0",
+        ),
+    ] {
+        assert_eq!(reply_of(op, label), expected, "{label}");
+    }
+    // The check of the paper's CalGray block: 1066 and 3030.
+    let gray = "CalGray block 0, white 0.9505 1 1.089, black 0, gamma 1, written";
+    assert!(reply_of(21, gray).ends_with(".042a0bd6"));
+    assert!(reply_of(21, "free block 5 has check 5 and 2525, written").ends_with("...0509dd"));
+    let byte = "byte B5 over 0..1 gives 709804, on a page";
+    assert_eq!(reply_of(31, byte), answer_text(&Answer::Gray(0.709804)));
+    let room = "hival 255 over CMYK, 1045 words into 1046";
+    assert!(reply_of(32, room).starts_with("words 1045 kept 1 2 4 255 0 "));
+}
+
+#[test]
+fn records_are_their_numbers_and_bytes() {
+    let mut rng = crate::generate::Rng::new(14);
+    for _ in 0..500 {
+        let number = rng.below(64) as u16;
+        let record = crate::generate::random_lone_record(&mut rng, number);
+        let mut args = vec![i32::from(number), i32::from(record.body.kind())];
+        args.extend(numbers_of(&record.body));
+        assert_eq!(record_of(&args, &record.bytes), Some(record));
+        assert_eq!(record_of(&args[..1], &record.bytes), None);
+        args.push(0);
+        assert_eq!(record_of(&args, &record.bytes), None);
+    }
+    assert_eq!(record_of(&[0, 0], &[0; BODY + 1]), None);
+    assert_eq!(record_of(&[-1, 0], &[]), None);
+    assert_eq!(record_of(&[0, 7], &[]), None);
+    let words = [1, -2, i32::MIN, i32::MAX];
+    assert_eq!(words_of(&bytes_of(&words)), Some(words.to_vec()));
+    assert_eq!(words_of(&[0; 5]), None);
+    for (v, text) in [
+        (0, "0"),
+        (1_800_000, "1.8"),
+        (-1, "-0.000001"),
+        (40_000_000, "40"),
+        (-100, "-0.0001"),
+    ] {
+        assert_eq!(decimal(v), text);
+    }
+}
+
+#[test]
+fn replies_worked_by_hand() {
+    for (label, expected) in [
+        ("index 2.5, hival 3, picks row 3", "3"),
+        ("index -0.5 picks row 0", "0"),
+        ("index 254.5 with hival 254 picks 254", "254"),
+        ("byte B5 over 0..1 gives 709804", "709804"),
+        ("byte B5 over the falling range 1..0", "290196"),
+        ("byte 55 over -2..-1 millionths", "-2"),
+        ("byte AA over -2..-1 millionths", "-1"),
+        ("byte 33 over the falling range 0..-3 millionths", "-1"),
+        ("tint 0.5 to exponent 4", "62500"),
+        ("tint 0.999999 to exponent 3", "999997"),
+        ("tint 1 gives C1", "750000"),
+        ("tint 0 gives C0", "-250000"),
+        ("half of the way from 0 to -1 millionth rounds up", "0"),
+        ("half of the way from -3 to -4 millionths rounds up", "-3"),
+        ("half of the way from -4 to -3 millionths rounds up", "-3"),
+        ("just past half from 0 to -1 millionth", "-1"),
+        ("from the least to the greatest number by 0.5", "0"),
+        ("from the greatest to the least number by 0.5", "0"),
+        ("the two bytes FF04, DeviceCMYK's code", "65284"),
+        ("the four bytes FFFFFFFE", "-2"),
+        ("the bytes of 1000000", "000f4240"),
+        ("the bytes of the least number", "80000000"),
+        ("the float of 0", "0000000000000000"),
+        (
+            "CalGray negative zero by a white point below 0",
+            "XYZ 8000000000000000 0000000000000000 8000000000000000",
+        ),
+        (
+            "CalRGB one negative zero of three",
+            "XYZ 8000000000000000 0000000000000000 0000000000000000",
+        ),
+        (
+            "Lab (0,0,0) gives zeros",
+            "XYZ 0000000000000000 0000000000000000 0000000000000000",
+        ),
+    ] {
+        assert_eq!(reply(label), expected, "{label}");
+    }
+    assert_eq!(
+        reply("Lab (100,0,0) gives the white point's floats"),
+        answer_text(&Answer::Xyz([0.9505, 1.0, 1.089]))
+    );
+}
+
+#[test]
+fn lines_have_the_agreed_form() {
+    let case = Case {
+        label: "a label".to_string(),
+        op: 8,
+        args: vec![],
+        bytes: Some(vec![0xff, 0xff, 0xff, 0x0a]),
+    };
+    assert_eq!(case.input_line(), "a label: 8 xffffff0a");
+    assert_eq!(case.output_line(), "a label: -246");
+    assert!(input_text(&all()).contains("limit -1 to 0..10: 1 -1 0 10\n"));
+    assert!(output_text(&all()).contains("limit -1 to 0..10: 0\n"));
+    let refused = Answer::Refused {
+        number: 7,
+        block: 63,
+    };
+    assert_eq!(answer_text(&refused), "refused 7 block 63");
+    assert_eq!(answer_text(&Answer::Gray(1.0)), "Gray 3ff0000000000000");
+    let odd = Case {
+        op: 2,
+        args: vec![1, 256],
+        bytes: None,
+        ..case
+    };
+    assert_eq!(odd.result(), None);
+}
