@@ -1,4 +1,4 @@
-//! The comparisons. Each puts chance input to the library and to the second implementation, and
+//! The comparisons. Each puts random input to the library and to the second implementation, and
 //! stops at the first difference.
 
 use crate::{inputs, ours, Difference, Library, Reply, Tally, REFERENCE};

@@ -1,4 +1,4 @@
-//! Chance input: pages, numbers to be asked for, colours, lists of words, records and blocks.
+//! Random input: pages, numbers to be asked for, colours, lists of words, records and blocks.
 
 use crate::ours;
 use reference::block::{lay, seal, Body, Record, BLOCK, DEVICE_CMYK, DEVICE_GRAY, DEVICE_RGB};
@@ -10,13 +10,13 @@ use reference::numbers::write_two;
 use reference::page::{components, spaces};
 use reference::recipe::{recipe_of, MOST_WORDS};
 
-/// A page: accepted, broken in one to three ways, or of bytes by chance.
+/// A page: accepted, broken in one to three ways, or of random bytes.
 pub fn page(rng: &mut Rng) -> Vec<u8> {
     match rng.below(8) {
         0 | 1 => random_page(rng),
         2..=5 => broken_page(rng),
-        6 => chance_bytes(rng),
-        _ => chance_blocks(rng),
+        6 => random_bytes(rng),
+        _ => random_blocks(rng),
     }
 }
 
@@ -45,8 +45,8 @@ pub fn broken_page(rng: &mut Rng) -> Vec<u8> {
     page
 }
 
-/// Bytes by chance, as many as some page or as none.
-fn chance_bytes(rng: &mut Rng) -> Vec<u8> {
+/// Random bytes, as many as some page or as none.
+fn random_bytes(rng: &mut Rng) -> Vec<u8> {
     let length = match rng.below(3) {
         0 => rng.below(1100),
         1 => rng.below(6) * BLOCK,
@@ -55,8 +55,8 @@ fn chance_bytes(rng: &mut Rng) -> Vec<u8> {
     (0..length).map(|_| rng.next() as u8).collect()
 }
 
-/// Blocks of bytes by chance, most of them zero, whose own numbers and checks are right.
-fn chance_blocks(rng: &mut Rng) -> Vec<u8> {
+/// Blocks of random bytes, most of them zero, whose own numbers and checks are right.
+fn random_blocks(rng: &mut Rng) -> Vec<u8> {
     let count = 1 + rng.below(6);
     let mut page = vec![0; count * BLOCK];
     for number in 0..count {
@@ -132,7 +132,7 @@ fn page_recipe(rng: &mut Rng) -> Vec<i32> {
 }
 
 /// A list of words to be run: a recipe, one broken in one to three ways, one about as long as may be,
-/// or words by chance.
+/// or random words.
 pub fn words(rng: &mut Rng) -> Vec<i32> {
     let mut words = match rng.below(8) {
         0..=3 => random_recipe(rng),
@@ -141,7 +141,7 @@ pub fn words(rng: &mut Rng) -> Vec<i32> {
             let length = rng.pick(&[1043, 1044, 1045, 1045, 1046, 1047, 2000], MOST_WORDS);
             long_recipe(rng, length)
         }
-        _ => return chance_words(rng),
+        _ => return random_words(rng),
     };
     if rng.once_in(2) {
         for _ in 0..1 + rng.below(3) {
@@ -151,8 +151,8 @@ pub fn words(rng: &mut Rng) -> Vec<i32> {
     words
 }
 
-/// Words by chance, small ones above all.
-fn chance_words(rng: &mut Rng) -> Vec<i32> {
+/// Random words, small ones above all.
+fn random_words(rng: &mut Rng) -> Vec<i32> {
     let length = match rng.below(4) {
         0 => rng.below(2000),
         _ => rng.below(24),
@@ -278,7 +278,7 @@ pub fn numbers(rng: &mut Rng) -> ([i32; 20], [u8; 504]) {
 }
 
 /// A block: a record's, accepted or not, one with bytes altered under a right or a wrong check, or
-/// bytes by chance and not always 512.
+/// random bytes and not always 512.
 pub fn block(rng: &mut Rng) -> Vec<u8> {
     let mut block = lay(&record(rng));
     match rng.below(8) {

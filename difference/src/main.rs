@@ -1,5 +1,5 @@
 //! `difference [SEED] [--pages N]`: compares the proved library with the second implementation on
-//! chance input, and stops at the first difference. The seed is the clock's where none is given.
+//! random input, and stops at the first difference. The seed is the clock's where none is given.
 
 use difference::{compare, Difference, PROVED};
 use reference::generate::Rng;

@@ -254,7 +254,7 @@ fn reading_refuses_numbers_and_references_as_writing_does() {
 }
 
 #[test]
-fn chance_records_are_read_back() {
+fn random_records_are_read_back() {
     let mut rng = Rng::new(1);
     let mut kinds = [0; 7];
     for _ in 0..20_000 {

@@ -154,7 +154,7 @@ fn slow(page: &[u8]) -> Result<usize, (u32, u32)> {
 }
 
 #[test]
-fn chance_pages_are_accepted_and_hold_every_family() {
+fn random_pages_are_accepted_and_hold_every_family() {
     let mut rng = Rng::new(2);
     let mut seen = std::collections::HashMap::new();
     let mut sizes = std::collections::HashSet::new();

@@ -1,0 +1,254 @@
+//! Accepted records and pages of random spaces.
+
+use super::Rng;
+use crate::block::{write_block, Body, Record, BLOCK, BODY, DEVICE_CMYK, DEVICE_GRAY, DEVICE_RGB};
+use crate::numbers::ONE;
+use crate::page::Family;
+
+/// What a block of the page to be is meant for.
+#[derive(Clone, Copy)]
+enum Plan {
+    Free,
+    CalGray,
+    CalRgb,
+    Lab,
+    /// An Indexed space over a base of m components.
+    Indexed {
+        m: usize,
+        hival: u16,
+    },
+    Separation,
+    /// The part of a palette that uses this many of its bytes.
+    Palette {
+        used: usize,
+    },
+}
+
+/// Lays out a page of this many blocks: which is meant for what, palettes straight after their Indexed block.
+fn plan_of(rng: &mut Rng, count: usize) -> Vec<Plan> {
+    let mut plan = Vec::new();
+    while plan.len() < count {
+        let left = count - plan.len() - 1;
+        match rng.below(8) {
+            0 => plan.push(Plan::Free),
+            1 => plan.push(Plan::CalGray),
+            2 => plan.push(Plan::CalRgb),
+            3 => plan.push(Plan::Lab),
+            4 | 5 => plan.push(Plan::Separation),
+            _ => {
+                let m = rng.pick(&[1, 1, 3, 3, 4], 1);
+                let wanted = match rng.below(4) {
+                    0 => 255,
+                    1 => rng.below(5),
+                    2 => 504usize.div_ceil(m).saturating_sub(rng.below(3)),
+                    _ => rng.below(256),
+                };
+                let room = (left * BODY / m).saturating_sub(1);
+                if left == 0 {
+                    continue;
+                }
+                let hival = wanted.min(255).min(room) as u16;
+                plan.push(Plan::Indexed { m, hival });
+                let mut bytes = m * (usize::from(hival) + 1);
+                while bytes > 0 {
+                    let used = bytes.min(BODY);
+                    plan.push(Plan::Palette { used });
+                    bytes -= used;
+                }
+            }
+        }
+    }
+    plan
+}
+
+/// The references that an Indexed base or a Separation's alternate may have on a page so laid out.
+fn references(plan: &[Plan], m: Option<usize>, separations: bool) -> Vec<u16> {
+    let mut found = Vec::new();
+    let fits = |count: usize| m.is_none() || m == Some(count);
+    for (code, family) in [
+        (DEVICE_GRAY, Family::DeviceGray),
+        (DEVICE_RGB, Family::DeviceRgb),
+        (DEVICE_CMYK, Family::DeviceCmyk),
+    ] {
+        if fits(family.components()) {
+            found.push(code);
+        }
+    }
+    for (number, block) in (0u16..).zip(plan) {
+        let count = match block {
+            Plan::CalGray => 1,
+            Plan::CalRgb | Plan::Lab => 3,
+            Plan::Separation if separations => 1,
+            _ => continue,
+        };
+        if fits(count) {
+            found.push(number);
+            // More often than the device codes, so that spaces nest.
+            found.push(number);
+        }
+    }
+    found
+}
+
+/// A white point that meets the clause.
+fn random_white(rng: &mut Rng) -> [i32; 3] {
+    if rng.once_in(3) {
+        [950_500, ONE, 1_089_000]
+    } else {
+        [rng.number_from(1), ONE, rng.number_from(1)]
+    }
+}
+
+/// A black point that meets the clause.
+fn random_black(rng: &mut Rng) -> [i32; 3] {
+    if rng.once_in(2) {
+        [0; 3]
+    } else {
+        [rng.number_from(0), rng.number_from(0), rng.number_from(0)]
+    }
+}
+
+/// A range of numbers, the lowest first.
+pub(super) fn random_range(rng: &mut Rng) -> [i32; 2] {
+    match rng.below(5) {
+        0 => [-100 * ONE, 100 * ONE],
+        1 => {
+            let v = rng.number();
+            [v, v]
+        }
+        2 => [i32::MIN, i32::MAX],
+        _ => {
+            let (v, w) = (rng.number(), rng.number());
+            [v.min(w), v.max(w)]
+        }
+    }
+}
+
+/// How many components the space of this reference has on a page so laid out.
+fn planned_count(plan: &[Plan], reference: u16) -> usize {
+    match (reference, plan.get(usize::from(reference))) {
+        (DEVICE_RGB, _) | (_, Some(Plan::CalRgb | Plan::Lab)) => 3,
+        (DEVICE_CMYK, _) => 4,
+        _ => 1,
+    }
+}
+
+/// A record for this place of the plan, with random numbers that keep every rule.
+fn random_record(rng: &mut Rng, plan: &[Plan], number: u16) -> Record {
+    let mut bytes = [0; BODY];
+    let body = match plan.get(usize::from(number)).copied() {
+        None | Some(Plan::Free) => Body::Free,
+        Some(Plan::CalGray) => Body::CalGray {
+            white: random_white(rng),
+            black: random_black(rng),
+            gamma: rng.gamma(),
+        },
+        Some(Plan::CalRgb) => Body::CalRgb {
+            white: random_white(rng),
+            black: random_black(rng),
+            gammas: [rng.gamma(), rng.gamma(), rng.gamma()],
+            matrix: std::array::from_fn(|_| rng.number()),
+        },
+        Some(Plan::Lab) => {
+            let [amin, amax] = random_range(rng);
+            let [bmin, bmax] = random_range(rng);
+            Body::Lab {
+                white: random_white(rng),
+                black: random_black(rng),
+                range: [amin, amax, bmin, bmax],
+            }
+        }
+        Some(Plan::Indexed { m, hival }) => {
+            let bases = references(plan, Some(m), true);
+            Body::Indexed {
+                base: rng.pick(&bases, DEVICE_GRAY),
+                hival,
+            }
+        }
+        Some(Plan::Separation) => {
+            let alternates = references(plan, None, false);
+            let alternate = rng.pick(&alternates, DEVICE_GRAY);
+            let m = planned_count(plan, alternate);
+            let length = rng.between(1, 127);
+            let name_length = rng.pick(&[1, 127, length, length], 1) as u8;
+            for place in bytes.iter_mut().take(usize::from(name_length)) {
+                *place = rng.byte().max(1);
+            }
+            let entry = |k: usize, rng: &mut Rng| if k < m { rng.number() } else { 0 };
+            Body::Separation {
+                alternate,
+                exponent: rng.between(1, 4) as u8,
+                name_length,
+                c0: std::array::from_fn(|k| entry(k, rng)),
+                c1: std::array::from_fn(|k| entry(k, rng)),
+            }
+        }
+        Some(Plan::Palette { used }) => {
+            for place in bytes.iter_mut().take(used) {
+                *place = rng.byte();
+            }
+            Body::Palette
+        }
+    };
+    Record {
+        number,
+        body,
+        bytes,
+    }
+}
+
+/// A record of this own number and of any kind that is accepted by itself.
+/// It has no page: its references are device codes or any of 0..63.
+pub fn random_lone_record(rng: &mut Rng, number: u16) -> Record {
+    let here = match rng.below(7) {
+        0 => Plan::Free,
+        1 => Plan::CalGray,
+        2 => Plan::CalRgb,
+        3 => Plan::Lab,
+        4 => Plan::Indexed {
+            m: 1,
+            hival: rng.below(256) as u16,
+        },
+        5 => Plan::Separation,
+        _ => Plan::Palette {
+            used: rng.below(BODY + 1),
+        },
+    };
+    let mut record = random_record(rng, &vec![here; usize::from(number) + 1], number);
+    let anywhere = rng.below(64) as u16;
+    match &mut record.body {
+        Body::Indexed { base, .. } if rng.once_in(2) => *base = anywhere,
+        Body::Separation {
+            alternate, c0, c1, ..
+        } if rng.once_in(2) => {
+            *alternate = anywhere;
+            *c0 = std::array::from_fn(|_| rng.number());
+            *c1 = std::array::from_fn(|_| rng.number());
+        }
+        _ => {}
+    }
+    record
+}
+
+/// An accepted page of exactly this many blocks (taken into 1..64), of random spaces.
+pub fn random_page_of(rng: &mut Rng, count: usize) -> Vec<u8> {
+    let plan = plan_of(rng, count.clamp(1, 64));
+    let mut page = vec![0; BLOCK * plan.len()];
+    for (number, block) in (0u16..).zip(page.chunks_exact_mut(BLOCK)) {
+        let record = random_record(rng, &plan, number);
+        // Every record made here keeps the rules of a block by itself, so none is refused.
+        let _ = write_block(&record, block);
+    }
+    page
+}
+
+/// An accepted page of 1 to 64 blocks, of random spaces that nest as far as they may.
+pub fn random_page(rng: &mut Rng) -> Vec<u8> {
+    let count = match rng.below(4) {
+        0 => rng.below(3) + 1,
+        1 => rng.below(64) + 1,
+        2 => rng.below(16) + 1,
+        _ => rng.pick(&[8, 63, 64], 64),
+    };
+    random_page_of(rng, count)
+}
