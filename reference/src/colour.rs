@@ -1,98 +1,98 @@
-//! Answering a colour on a page.
+//! Answering a colour on a page: document 01's "Colour steps".
 
 use crate::block::Body;
 use crate::cie::{cal_gray, cal_rgb, lab, Answer};
-use crate::numbers::{
-    float_of, house_units, index, limit, palette_value, tint_power, tint_value, ONE,
-};
-use crate::page::{block_at, components, family, palette_byte, ranges, validate, Family};
+use crate::numbers::{float_of, house_units, index, limit, palette_value, tint_power, tint_value};
+use crate::page::{body_at, components, family, palette_byte, ranges, validate, Family};
 
 /// The refusal that belongs to no block.
 pub(crate) fn refused(number: u32) -> Answer {
     Answer::Refused { number, block: 0 }
 }
 
-/// Answers a colour: the page is judged, then the number asked for (refusal 8)
-/// and the count of components (9); then the colour steps are taken.
+/// The values that a colour starts with, those not given being 0.
+pub(crate) fn values_of(colour: &[i32]) -> [i32; 4] {
+    std::array::from_fn(|k| colour.get(k).copied().unwrap_or(0))
+}
+
+/// "A colour: judge, 8, 9."
 pub fn evaluate(page: &[u8], number: u32, colour: &[i32]) -> Answer {
     if let Err((number, block)) = validate(page) {
         return Answer::Refused { number, block };
     }
-    let Some(family) = family(page, number) else {
+    let Some(count) = components(page, number) else {
         return refused(8);
     };
-    if colour.len() != family.components() {
+    if colour.len() != count {
         return refused(9);
     }
-    let mut values = [0; 4];
-    for (value, component) in values.iter_mut().zip(colour) {
-        *value = *component;
-    }
-    answer(page, number, values)
+    answer(page, number, values_of(colour))
 }
 
-/// The colour steps on an accepted page; the space asked for is there and its count is met.
-/// Each call of itself is for the inner space, and the rank Indexed, Separation, plain falls.
-fn answer(page: &[u8], number: u32, values: [i32; 4]) -> Answer {
-    let Some(space) = family(page, number) else {
-        return refused(8);
-    };
-    let limited = || {
-        let ranges = ranges(page, number);
-        std::array::from_fn::<i32, 4, _>(|k| limit(values[k], ranges[k].0, ranges[k].1))
-    };
-    match space {
-        Family::DeviceGray => return Answer::Gray(float_of(limited()[0])),
-        Family::DeviceRgb => {
-            let [r, g, b, _] = limited();
-            return Answer::Rgb([r, g, b].map(float_of));
+/// The colour steps in the space that a number asks for, on an accepted page that has it: `evaluate` sees to both. "So
+/// nesting falls at each step": each call of itself is for the inner space, and the rank Indexed, Separation, plain falls.
+pub fn answer(page: &[u8], number: u32, values: [i32; 4]) -> Answer {
+    let [a, b, c, d] = limited(page, number, values);
+    match (family(page, number), body_at(page, number)) {
+        // "Device. The float of each component."
+        (Some(Family::DeviceGray), _) => Answer::Gray(float_of(a)),
+        (Some(Family::DeviceRgb), _) => Answer::Rgb([a, b, c].map(float_of)),
+        (Some(Family::DeviceCmyk), _) => Answer::Cmyk([a, b, c, d].map(float_of)),
+        (_, Some(Body::CalGray { white, gamma, .. })) => {
+            let [xw, _, zw] = white;
+            Answer::Xyz(cal_gray(xw, zw, units(gamma), a))
         }
-        Family::DeviceCmyk => return Answer::Cmyk(limited().map(float_of)),
-        _ => {}
-    }
-    let at = number as usize;
-    let Some(body) = block_at(page, at).and_then(Body::of) else {
-        return refused(8);
-    };
-    match body {
-        Body::CalGray { white, gamma, .. } => {
-            let [a, ..] = limited();
-            let units = house_units(gamma).unwrap_or(1);
-            Answer::Xyz(cal_gray(white[0], white[2], units, a))
+        (_, Some(Body::CalRgb { gammas, matrix, .. })) => {
+            Answer::Xyz(cal_rgb(gammas.map(units), matrix, [a, b, c]))
         }
-        Body::CalRgb { gammas, matrix, .. } => {
-            let [a, b, c, _] = limited();
-            let units = gammas.map(|gamma| house_units(gamma).unwrap_or(1));
-            Answer::Xyz(cal_rgb(units, matrix, [a, b, c]))
+        (_, Some(Body::Lab { white, .. })) => {
+            let [xw, _, zw] = white;
+            Answer::Xyz(lab(xw, zw, a, b, c))
         }
-        Body::Lab { white, .. } => {
-            let [l, a, b, _] = limited();
-            Answer::Xyz(lab(white[0], white[2], l, a, b))
-        }
-        Body::Indexed { base, hival } => {
+        (_, Some(Body::Indexed { base, hival })) => {
             let base = u32::from(base);
-            let m = components(page, base).unwrap_or(0);
-            let ranges = ranges(page, base);
-            let row = usize::from(index(values[0], hival.min(255) as u8));
-            let mut inner = [0; 4];
-            for k in 0..m {
-                let byte = palette_byte(page, at, row * m + k);
-                inner[k] = palette_value(byte, ranges[k].0, ranges[k].1);
-            }
-            answer(page, base, inner)
+            let row = index(values[0], hival.min(255) as u8);
+            answer(page, base, row_of(page, number, base, row))
         }
-        Body::Separation {
-            alternate,
-            exponent,
-            c0,
-            c1,
-            ..
-        } => {
-            let q = tint_power(limit(values[0], 0, ONE), exponent);
-            // Entries past the alternate's count are zero on an accepted page, and so are their values.
-            let inner = std::array::from_fn(|k| tint_value(c0[k], c1[k], q));
-            answer(page, u32::from(alternate), inner)
+        (_, Some(body @ Body::Separation { alternate, .. })) => {
+            answer(page, u32::from(alternate), tinted(&body, a))
         }
-        Body::Free | Body::Palette => refused(8),
+        _ => refused(8),
     }
+}
+
+/// "Every component is first taken to the nearest number in range."
+fn limited(page: &[u8], number: u32, values: [i32; 4]) -> [i32; 4] {
+    let ranges = ranges(page, number);
+    std::array::from_fn(|k| limit(values[k], ranges[k].0, ranges[k].1))
+}
+
+/// The whole units of a gamma, which an accepted page's gamma has.
+fn units(gamma: i32) -> u8 {
+    house_units(gamma).unwrap_or(1)
+}
+
+/// The components that a row of an Indexed space's palette gives: "The result is a colour of the base."
+fn row_of(page: &[u8], indexed: u32, base: u32, row: u8) -> [i32; 4] {
+    let m = components(page, base).unwrap_or(0);
+    let ranges = ranges(page, base);
+    let mut colour = [0; 4];
+    for k in 0..m {
+        let byte = palette_byte(page, indexed as usize, usize::from(row) * m + k);
+        colour[k] = palette_value(byte, ranges[k].0, ranges[k].1);
+    }
+    colour
+}
+
+/// The alternate components that a tint gives. Entries past the alternate's count are zero on an accepted page, and
+/// so are their values.
+fn tinted(separation: &Body, tint: i32) -> [i32; 4] {
+    let Body::Separation {
+        exponent, c0, c1, ..
+    } = separation
+    else {
+        return [0; 4];
+    };
+    let q = tint_power(tint, *exponent);
+    std::array::from_fn(|k| tint_value(c0[k], c1[k], q))
 }

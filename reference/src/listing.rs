@@ -1,11 +1,10 @@
 //! The listing of a page's spaces.
 
 use crate::page::{spaces, validate};
-use crate::recipe::length;
-use std::fmt::Write;
+use crate::recipe::recipe_of;
 
-/// What the listing program prints for a page: the block count, then number, family, components
-/// and recipe words of each space; or one line for a refused page. Every line ends in a newline.
+/// "The listing program ... prints the block count, then number, family, components and recipe words of each space."
+/// "A refused page prints one line, as `refused 2 block 0`." Every line ends in a newline.
 pub fn list(page: &[u8]) -> String {
     let blocks = match validate(page) {
         Ok(blocks) => blocks,
@@ -13,14 +12,9 @@ pub fn list(page: &[u8]) -> String {
     };
     let mut text = format!("blocks {blocks}\n");
     for (number, family) in spaces(page) {
-        // Writing into a String never fails.
-        let _ = writeln!(
-            text,
-            "{number} {} {} {}",
-            family.name(),
-            family.components(),
-            length(page, number)
-        );
+        let (name, components) = (family.name(), family.components());
+        let words = recipe_of(page, number).map_or(0, |words| words.len());
+        text += &format!("{number} {name} {components} {words}\n");
     }
     text
 }

@@ -1,57 +1,56 @@
-//! The whole-number side of colours and records.
+//! Document 01, "Numbers", and the roundings of its colour steps.
 //!
-//! A record number or a colour component is a signed 32-bit count of millionths.
+//! "A record number or colour component is a signed 32-bit count of millionths."
 
 /// One, counted in millionths.
 pub const ONE: i32 = 1_000_000;
 
-/// The two-byte number of a record at the given offset, high byte first.
-/// Where the bytes do not reach that far it is 0.
-#[inline]
+/// "Numbers are big-endian": the two-byte number at this offset, 0 where the bytes do not reach that far.
 pub fn read_two(bytes: &[u8], at: usize) -> u16 {
-    match bytes.get(at..).and_then(|rest| rest.first_chunk::<2>()) {
+    match bytes.get(at..).and_then(|rest| rest.first_chunk()) {
         Some(two) => u16::from_be_bytes(*two),
         None => 0,
     }
 }
 
-/// The signed four-byte number of a record at the given offset, high byte first, in two's complement.
-/// Where the bytes do not reach that far it is 0.
-#[inline]
+/// "Numbers are big-endian, signed ones in two's complement": the four-byte number at this offset,
+/// 0 where the bytes do not reach that far.
 pub fn read_four(bytes: &[u8], at: usize) -> i32 {
-    match bytes.get(at..).and_then(|rest| rest.first_chunk::<4>()) {
+    match bytes.get(at..).and_then(|rest| rest.first_chunk()) {
         Some(four) => i32::from_be_bytes(*four),
         None => 0,
     }
 }
 
-/// Lays a two-byte number into a record at the given offset, high byte first.
-/// Where the bytes do not reach that far nothing is altered.
-#[inline]
+/// Lays a two-byte number at this offset; alters nothing where the bytes do not reach that far.
 pub fn write_two(bytes: &mut [u8], at: usize, v: u16) {
-    if let Some(two) = bytes
-        .get_mut(at..)
-        .and_then(|rest| rest.first_chunk_mut::<2>())
-    {
+    if let Some(two) = bytes.get_mut(at..).and_then(|rest| rest.first_chunk_mut()) {
         *two = v.to_be_bytes();
     }
 }
 
-/// Lays a signed four-byte number into a record at the given offset, high byte first, in two's complement.
-/// Where the bytes do not reach that far nothing is altered.
-#[inline]
+/// Lays a signed four-byte number at this offset; alters nothing where the bytes do not reach that far.
 pub fn write_four(bytes: &mut [u8], at: usize, v: i32) {
-    if let Some(four) = bytes
-        .get_mut(at..)
-        .and_then(|rest| rest.first_chunk_mut::<4>())
-    {
+    if let Some(four) = bytes.get_mut(at..).and_then(|rest| rest.first_chunk_mut()) {
         *four = v.to_be_bytes();
     }
 }
 
-/// The number in lo..hi that is nearest to v.
+/// "Float of v" means v as f64 divided by 1000000.0.
+pub fn float_of(v: i32) -> f64 {
+    f64::from(v) / 1_000_000.0
+}
+
+/// "Half-up rounding means the floor of the exact value plus one half, for negatives too."
+/// The exact value is n / d, so this is the floor of (2n + d) / 2d. A d of 0 counts as 1.
+pub fn half_up(n: i64, d: u32) -> i64 {
+    let n = i128::from(n);
+    let d = i128::from(d.max(1));
+    (2 * n + d).div_euclid(2 * d) as i64
+}
+
+/// "Every component is first taken to the nearest number in range."
 /// Should lo be above hi (no accepted record has that), a v below lo gives lo and any other v above hi gives hi.
-#[inline]
 pub fn limit(v: i32, lo: i32, hi: i32) -> i32 {
     if v < lo {
         lo
@@ -62,46 +61,21 @@ pub fn limit(v: i32, lo: i32, hi: i32) -> i32 {
     }
 }
 
-/// Half-up rounding of the fraction n / d: the floor of its exact value plus one half, for negatives too.
-/// A d of 0 counts as 1.
-#[inline]
-pub fn half_up(n: i64, d: u32) -> i64 {
-    let d = i64::from(d.max(1));
-    let floor = n.div_euclid(d);
-    let rest = n.rem_euclid(d);
-    // The fraction is floor + rest/d, and rest/d reaches one half just when twice the rest reaches d.
-    if 2 * rest >= d {
-        floor + 1
-    } else {
-        floor
-    }
-}
-
-/// The palette row that an Indexed component picks: rounded half up to an integer, then the nearest in 0..hival.
-#[inline]
+/// "The component rounds half up to an integer, then goes to the nearest in 0..hival."
 pub fn index(v: i32, hival: u8) -> u8 {
     let rounded = half_up(i64::from(v), 1_000_000);
-    if rounded < 0 {
-        0
-    } else if rounded > i64::from(hival) {
-        hival
-    } else {
-        rounded as u8
-    }
+    rounded.clamp(0, i64::from(hival)) as u8
 }
 
-/// The component that a palette byte stands for in the range lo..hi: lo + byte(hi - lo)/255, rounded half up.
-/// The result always lies between lo and hi, whichever of the two is the greater.
-#[inline]
+/// "A palette byte v in a range lo..hi (numbers in millionths) gives lo + v(hi - lo)/255, rounded half up."
+/// The exact value is (255 lo + v(hi - lo)) / 255, between lo and hi, whichever of the two is the greater.
 pub fn palette_value(byte: u8, lo: i32, hi: i32) -> i32 {
-    let lo = i64::from(lo);
-    let hi = i64::from(hi);
-    (lo + half_up(i64::from(byte) * (hi - lo), 255)) as i32
+    let [v, lo, hi] = [i64::from(byte), i64::from(lo), i64::from(hi)];
+    half_up(255 * lo + v * (hi - lo), 255) as i32
 }
 
-/// The tint raised to a whole exponent: x itself, and for each further unit the half-up rounding of q * x / 1000000.
-/// A tint beyond 0..1000000 is first taken to the nearest end; an exponent of 0 counts as 1.
-#[inline]
+/// "With tint x in 0..1000000: q = x; each further unit of the exponent makes q the half-up rounding of
+/// q * x / 1000000." A tint beyond 0..1000000 is first taken to the nearest end; an exponent of 0 counts as 1.
 pub fn tint_power(x: i32, exponent: u8) -> i32 {
     let x = i64::from(limit(x, 0, ONE));
     let mut q = x;
@@ -111,32 +85,18 @@ pub fn tint_power(x: i32, exponent: u8) -> i32 {
     q as i32
 }
 
-/// One component of a Separation's alternate colour: C0 + q(C1 - C0)/1000000, rounded half up.
-/// A q beyond 0..1000000 is first taken to the nearest end, so the result lies between C0 and C1.
-#[inline]
+/// "Each alternate component is C0 + q(C1 - C0)/1000000, rounded half up."
+/// The exact value is (1000000 C0 + q(C1 - C0)) / 1000000. A q beyond 0..1000000 is first taken to the nearest
+/// end, so the result lies between C0 and C1.
 pub fn tint_value(c0: i32, c1: i32, q: i32) -> i32 {
     let q = i64::from(limit(q, 0, ONE));
-    let c0 = i64::from(c0);
-    let c1 = i64::from(c1);
-    (c0 + half_up(q * (c1 - c0), 1_000_000)) as i32
+    let [c0, c1] = [i64::from(c0), i64::from(c1)];
+    half_up(1_000_000 * c0 + q * (c1 - c0), 1_000_000) as i32
 }
 
-/// The float of v: v as f64, divided by 1000000.0.
-#[inline]
-pub fn float_of(v: i32) -> f64 {
-    f64::from(v) / 1_000_000.0
-}
-
-/// The whole units of a gamma that meets the house limit (whole, 1 to 4), given in millionths; none for any other.
-#[inline]
+/// "Each gamma and each exponent is whole, 1 to 4": the units of a gamma in millionths, none for any other gamma.
 pub fn house_units(gamma: i32) -> Option<u8> {
-    match gamma {
-        1_000_000 => Some(1),
-        2_000_000 => Some(2),
-        3_000_000 => Some(3),
-        4_000_000 => Some(4),
-        _ => None,
-    }
+    (1..=4).find(|units| i32::from(*units) * ONE == gamma)
 }
 
 #[cfg(test)]
@@ -177,13 +137,15 @@ mod tests {
         assert_eq!(half_up(7, 0), 7);
         assert_eq!(half_up(i64::MAX, 1), i64::MAX);
         assert_eq!(half_up(i64::MIN, 1), i64::MIN);
-        // Against a wide exact form: floor((2n + d) / 2d).
+        // Another way to say it: n / d is a whole number and a rest, and the rest reaches one half or does not.
         let mut rng = crate::generate::Rng::new(11);
         for _ in 0..100_000 {
             let n = rng.next() as i64;
             let d = (rng.next() as u32).max(1);
-            let wide = (2 * i128::from(n) + i128::from(d)).div_euclid(2 * i128::from(d));
-            assert_eq!(i128::from(half_up(n, d)), wide);
+            let whole = n.div_euclid(i64::from(d));
+            let rest = n.rem_euclid(i64::from(d));
+            let reached = 2 * rest >= i64::from(d);
+            assert_eq!(half_up(n, d), whole + i64::from(reached));
         }
     }
 

@@ -1,11 +1,12 @@
-//! A page of 1 to 64 blocks: judging it, and finding the spaces on it.
+//! A page of "1 to 64 blocks of 512 bytes": the spaces on it, and judging it.
 
 use crate::block::{
-    check_holds, form_holds, Body, BLOCK, BODY, DEVICE_CMYK, DEVICE_GRAY, DEVICE_RGB, MOST_BLOCKS,
+    check_holds, form_holds, Body, BLOCK, BODY, BODY_AT, DEVICE_CMYK, DEVICE_GRAY, DEVICE_RGB,
+    MOST_BLOCKS,
 };
-use crate::numbers::{read_four, read_two, ONE};
+use crate::numbers::{read_two, ONE};
 
-/// The families of colour spaces that are carried.
+/// "Carried: DeviceGray, DeviceRGB, DeviceCMYK, CalGray, CalRGB, Lab, Indexed, Separation."
 #[derive(Clone, Copy, Debug, PartialEq, Eq)]
 pub enum Family {
     /// The device code FF01.
@@ -27,8 +28,7 @@ pub enum Family {
 }
 
 impl Family {
-    /// How many components a colour of this family has.
-    #[inline]
+    /// "Component counts: Gray, CalGray, Indexed, Separation 1; RGB, CalRGB, Lab 3; CMYK 4."
     pub fn components(self) -> usize {
         match self {
             Family::DeviceGray | Family::CalGray | Family::Indexed | Family::Separation => 1,
@@ -52,7 +52,6 @@ impl Family {
     }
 
     /// The family of a block of this kind; none for free blocks, palettes and unknown kinds.
-    #[inline]
     pub fn of_kind(kind: u8) -> Option<Family> {
         match kind {
             1 => Some(Family::CalGray),
@@ -65,32 +64,32 @@ impl Family {
     }
 }
 
-/// The blocks of a page, in order.
-#[inline]
-fn blocks(page: &[u8]) -> impl Iterator<Item = &[u8; BLOCK]> {
-    page.chunks_exact(BLOCK)
-        .filter_map(|bytes| bytes.first_chunk::<BLOCK>())
+/// The blocks of a page, in order; bytes after the last whole block are left out.
+fn blocks(page: &[u8]) -> &[[u8; BLOCK]] {
+    page.as_chunks().0
 }
 
 /// The block of this number on a page; none past the page's end.
-#[inline]
 pub fn block_at(page: &[u8], number: usize) -> Option<&[u8; BLOCK]> {
-    let start = number.checked_mul(BLOCK)?;
-    page.get(start..)?.first_chunk::<BLOCK>()
+    blocks(page).get(number)
 }
 
-/// The family of the space that a number asks for: a device code, or a block of kinds 1 to 5.
-/// None for any other number, the case of refusal 8.
-#[inline]
+/// What the block of this number records; none past the page's end, for device codes and for an unknown kind.
+pub(crate) fn body_at(page: &[u8], number: u32) -> Option<Body> {
+    block_at(page, number as usize).and_then(Body::of)
+}
+
+/// "A reference is a block number, or FF01, FF03, FF04 (hexadecimal) for DeviceGray, RGB, CMYK": the family of the
+/// space that a number asks for. None where "the number asked for is neither a device code nor a block of kinds 1 to 5".
 pub fn family(page: &[u8], number: u32) -> Option<Family> {
-    const GRAY: u32 = DEVICE_GRAY as u32;
-    const RGB: u32 = DEVICE_RGB as u32;
-    const CMYK: u32 = DEVICE_CMYK as u32;
-    match number {
-        GRAY => Some(Family::DeviceGray),
-        RGB => Some(Family::DeviceRgb),
-        CMYK => Some(Family::DeviceCmyk),
-        _ => Family::of_kind(block_at(page, usize::try_from(number).ok()?)?[0]),
+    if number == u32::from(DEVICE_GRAY) {
+        Some(Family::DeviceGray)
+    } else if number == u32::from(DEVICE_RGB) {
+        Some(Family::DeviceRgb)
+    } else if number == u32::from(DEVICE_CMYK) {
+        Some(Family::DeviceCmyk)
+    } else {
+        Family::of_kind(block_at(page, number as usize)?[0])
     }
 }
 
@@ -101,118 +100,132 @@ pub fn components(page: &[u8], number: u32) -> Option<usize> {
 
 /// The spaces that a page holds, blocks upward: each one's number and family.
 pub fn spaces(page: &[u8]) -> impl Iterator<Item = (u32, Family)> + '_ {
-    (0u32..)
+    (0..)
         .zip(blocks(page))
         .filter_map(|(number, block)| Some((number, Family::of_kind(block[0])?)))
 }
 
-/// The ranges of a space's components in millionths, lowest and highest:
-/// Lab L* 0..100, a* and b* by its Range, all others 0..1.
-#[inline]
+/// The ranges of a space's components in millionths, lowest and highest: "Lab L* 0..100, a* and b* by Range, ... all
+/// others 0..1".
 pub fn ranges(page: &[u8], number: u32) -> [(i32, i32); 4] {
-    let mut ranges = [(0, ONE); 4];
-    if family(page, number) == Some(Family::Lab) {
-        if let Some(block) = usize::try_from(number)
-            .ok()
-            .and_then(|number| block_at(page, number))
-        {
-            ranges[0] = (0, 100 * ONE);
-            ranges[1] = (read_four(block, 28), read_four(block, 32));
-            ranges[2] = (read_four(block, 36), read_four(block, 40));
-        }
+    match body_at(page, number) {
+        Some(Body::Lab {
+            range: [amin, amax, bmin, bmax],
+            ..
+        }) => [(0, 100 * ONE), (amin, amax), (bmin, bmax), (0, ONE)],
+        _ => [(0, ONE); 4],
     }
-    ranges
 }
 
-/// The byte at this place of the palette that follows an Indexed block; 0 past the page's end.
-#[inline]
+/// The byte at this place of the palette "laid in the blocks straight after the Indexed block"; 0 past the page's end.
 pub fn palette_byte(page: &[u8], indexed: usize, place: usize) -> u8 {
-    match block_at(page, indexed.saturating_add(1 + place / BODY)) {
-        Some(block) => block[4 + place % BODY],
-        None => 0,
-    }
+    let block = block_at(page, indexed.saturating_add(1 + place / BODY));
+    block.map_or(0, |block| block[BODY_AT + place % BODY])
 }
 
-/// How many blocks of kind 6 straight after an Indexed block hold its palette;
-/// none where the run is short or its spare bytes are not zero.
-#[inline]
-fn palette_run(page: &[u8], indexed: usize, bytes: usize) -> Option<usize> {
-    let run = bytes.div_ceil(BODY);
-    let mut left = bytes;
-    for step in 1..=run {
-        let block = block_at(page, indexed + step)?;
-        let used = left.min(BODY);
-        let spare = &block[4 + used..4 + BODY];
-        if block[0] != 6 || spare.iter().any(|byte| *byte != 0) {
-            return None;
-        }
-        left -= used;
-    }
-    Some(run)
+/// "The palette has m x (hival + 1) bytes, m the base's count."
+fn palette_length(page: &[u8], base: u16, hival: u16) -> usize {
+    let m = components(page, u32::from(base)).unwrap_or(0);
+    m * (usize::from(hival) + 1)
 }
 
-/// Judges a page. An accepted page gives its count of blocks;
-/// a refused one the number of the first refusal found and the block that it is given with.
-pub fn validate(page: &[u8]) -> Result<usize, (u32, u32)> {
-    let count = page.len() / BLOCK;
-    if count * BLOCK != page.len() || !(1..=MOST_BLOCKS).contains(&count) {
-        return Err((1, 0));
-    }
-    // Blocks upward: the check, then the form.
-    for (number, block) in (0u16..).zip(blocks(page)) {
-        if !check_holds(block) {
-            return Err((2, u32::from(number)));
-        }
-        if read_two(block, 2) != number || !form_holds(block) {
-            return Err((3, u32::from(number)));
-        }
-    }
-    // Blocks upward again: own numbers, references, palettes and spare entries.
-    let mut run_end = 0;
-    for (at, block) in blocks(page).enumerate() {
-        if let Err(number) = rules(page, at, block, &mut run_end) {
-            return Err((number, at as u32));
-        }
-    }
-    Ok(count)
+/// The palette is "laid in the blocks straight after the Indexed block, as few as hold them, all kind 6, spare bytes
+/// zero".
+fn palette_holds(page: &[u8], indexed: usize, length: usize) -> bool {
+    let run = length.div_ceil(BODY);
+    let is_palette = |number| block_at(page, number).is_some_and(|block| block[0] == 6);
+    (indexed + 1..=indexed + run).all(is_palette)
+        && (length..run * BODY).all(|place| palette_byte(page, indexed, place) == 0)
 }
 
-/// Refusals 4, 5, 6 and 7 of one block on its page. `run_end` is the first block
-/// that lies past every palette run found so far, and moves on with each Indexed block.
-#[inline]
-fn rules(page: &[u8], at: usize, block: &[u8; BLOCK], run_end: &mut usize) -> Result<(), u32> {
-    let Some(body) = Body::of(block) else {
-        return Err(3);
+/// "A palette block outside such a run is refused": whether the run of an Indexed block before this one reaches it.
+fn in_a_run(page: &[u8], number: usize) -> bool {
+    let reaches = |indexed| match block_at(page, indexed).and_then(Body::of) {
+        Some(Body::Indexed { base, hival }) => {
+            number <= indexed + palette_length(page, base, hival).div_ceil(BODY)
+        }
+        _ => false,
     };
-    if let Some(number) = body.number_refusal() {
-        return Err(number);
+    (0..number).any(reaches)
+}
+
+/// What refusal 6 looks at: "An Indexed base is any carried space but Indexed. A Separation's alternate is a device
+/// space, CalGray, CalRGB or Lab".
+fn reference_holds(page: &[u8], body: &Body) -> bool {
+    let family = |reference: u16| family(page, u32::from(reference));
+    match body {
+        Body::Indexed { base, .. } => family(*base).is_some_and(|base| base != Family::Indexed),
+        Body::Separation { alternate, .. } => matches!(
+            family(*alternate),
+            Some(
+                Family::DeviceGray
+                    | Family::DeviceRgb
+                    | Family::DeviceCmyk
+                    | Family::CalGray
+                    | Family::CalRgb
+                    | Family::Lab
+            )
+        ),
+        _ => true,
     }
+}
+
+/// What refusal 7 looks at: "the palette run is short or its spare bytes not zero; a stray palette block; C0 or C1
+/// entries past the alternate's count not zero".
+fn run_or_entries_hold(page: &[u8], number: usize, body: &Body) -> bool {
     match body {
         Body::Indexed { base, hival } => {
-            let base = match family(page, u32::from(base)) {
-                None | Some(Family::Indexed) => return Err(6),
-                Some(base) => base,
-            };
-            let bytes = base.components() * (usize::from(hival) + 1);
-            match palette_run(page, at, bytes) {
-                Some(run) => *run_end = at + 1 + run,
-                None => return Err(7),
-            }
+            palette_holds(page, number, palette_length(page, *base, *hival))
         }
+        Body::Palette => in_a_run(page, number),
         Body::Separation {
             alternate, c0, c1, ..
         } => {
-            let alternate = match family(page, u32::from(alternate)) {
-                None | Some(Family::Indexed | Family::Separation) => return Err(6),
-                Some(alternate) => alternate,
-            };
-            let past = alternate.components();
-            if c0[past..].iter().chain(&c1[past..]).any(|v| *v != 0) {
-                return Err(7);
-            }
+            let count = components(page, u32::from(*alternate)).unwrap_or(4);
+            c0[count..].iter().chain(&c1[count..]).all(|v| *v == 0)
         }
-        Body::Palette if at >= *run_end => return Err(7),
-        _ => {}
+        _ => true,
+    }
+}
+
+/// The first refusal of a block by its bytes: "2 before 3".
+fn first_pass(number: usize, block: &[u8; BLOCK]) -> Result<(), u32> {
+    if !check_holds(block) {
+        return Err(2);
+    }
+    if usize::from(read_two(block, 2)) != number || !form_holds(block) {
+        return Err(3);
     }
     Ok(())
+}
+
+/// The first refusal of a block by what it records: "4, 5, 6, 7".
+fn second_pass(page: &[u8], number: usize, block: &[u8; BLOCK]) -> Result<(), u32> {
+    let body = Body::of(block).ok_or(3u32)?;
+    if let Some(refusal) = body.number_refusal() {
+        return Err(refusal);
+    }
+    if !reference_holds(page, &body) {
+        return Err(6);
+    }
+    if !run_or_entries_hold(page, number, &body) {
+        return Err(7);
+    }
+    Ok(())
+}
+
+/// "Judging: 1; then blocks upward, 2 before 3; then blocks upward again, 4, 5, 6, 7. The first found is given with its
+/// block number." An accepted page gives its count of blocks.
+pub fn validate(page: &[u8]) -> Result<usize, (u32, u32)> {
+    // 1 is given when "the page's length is not 512 x (1..64)".
+    let Some(count) = (1..=MOST_BLOCKS).find(|count| page.len() == BLOCK * count) else {
+        return Err((1, 0));
+    };
+    for (number, block) in blocks(page).iter().enumerate() {
+        first_pass(number, block).map_err(|refusal| (refusal, number as u32))?;
+    }
+    for (number, block) in blocks(page).iter().enumerate() {
+        second_pass(page, number, block).map_err(|refusal| (refusal, number as u32))?;
+    }
+    Ok(count)
 }

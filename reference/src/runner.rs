@@ -1,156 +1,192 @@
 //! Running a recipe: no page and no other storage.
 
 use crate::cie::{cal_gray, cal_rgb, lab, Answer};
-use crate::colour::refused;
+use crate::colour::{refused, values_of};
 use crate::numbers::{float_of, house_units, index, limit, tint_power, tint_value, ONE};
 use crate::recipe::MOST_WORDS;
 
-/// One step of a recipe.
-enum Step<'a> {
-    /// Value k is limited to lo..hi.
-    Limit { k: usize, lo: i32, hi: i32 },
-    /// Value 0 picks a row of m entries.
-    Palette {
+/// A recipe that was read: "the input count 1..4, steps, one closing step, nothing more".
+struct Recipe<'a> {
+    count: usize,
+    steps: Vec<Step<'a>>,
+    closing: Closing,
+}
+
+/// A step that changes values.
+#[derive(Clone, Copy, Debug)]
+pub enum Step<'a> {
+    /// "1 k lo hi: value k (0..3) limited; lo <= hi."
+    Limit {
+        /// Which value.
+        k: usize,
+        /// The lowest.
+        lo: i32,
+        /// The highest.
+        hi: i32,
+    },
+    /// "2 m h and m(h + 1) entries: value 0 rounded and limited to 0..h as above, the row replaces values 0..m-1.
+    /// m 1..4, h 0..255."
+    Rows {
+        /// How many values a row replaces.
         m: usize,
-        hival: u8,
+        /// The last row's number.
+        h: u8,
+        /// The entries, row by row.
         entries: &'a [i32],
     },
-    /// Value 0 is a tint; the results replace as many values as there are C0s.
+    /// "3 e m, m C0s, m C1s: the tint step, value 0 first limited to 0..1; the results replace values 0..m-1.
+    /// e and m 1..4."
     Tint {
-        exponent: u8,
+        /// The exponent.
+        e: u8,
+        /// The results of tint 0.
         c0: &'a [i32],
+        /// The results of tint 1.
         c1: &'a [i32],
     },
-    /// The closing step.
-    Close(Closing),
 }
 
-/// The closing step of a recipe, which reads the values as they stand.
-enum Closing {
-    /// One value as a DeviceGray answer.
+/// A closing step: "They read the values as they stand."
+#[derive(Clone, Copy, Debug)]
+pub enum Closing {
+    /// "4 Gray".
     Gray,
-    /// Three values as a DeviceRGB answer.
+    /// "5 RGB".
     Rgb,
-    /// Four values as a DeviceCMYK answer.
+    /// "6 CMYK".
     Cmyk,
-    /// CalGray, with the white point's X and Z and the gamma in units.
-    CalGray { xw: i32, zw: i32, units: u8 },
-    /// CalRGB, with three gammas in units and the matrix.
-    CalRgb { units: [u8; 3], matrix: [i32; 9] },
-    /// Lab, with the white point's X and Z.
-    Lab { xw: i32, zw: i32 },
+    /// "7 XW ZW gamma".
+    CalGray {
+        /// The white point's X.
+        xw: i32,
+        /// The white point's Z.
+        zw: i32,
+        /// The gamma in whole units.
+        units: u8,
+    },
+    /// "8 three gammas, nine matrix numbers".
+    CalRgb {
+        /// The gammas in whole units.
+        units: [u8; 3],
+        /// The matrix in the record's order.
+        matrix: [i32; 9],
+    },
+    /// "9 XW ZW (Lab)".
+    Lab {
+        /// The white point's X.
+        xw: i32,
+        /// The white point's Z.
+        zw: i32,
+    },
 }
 
-/// A word that counts 1..4, as the number that it is; none for any other word.
-#[inline]
+/// A word that is to be 1..4; none for any other.
 fn one_to_four(word: i32) -> Option<usize> {
     (1..=4).contains(&word).then_some(word as usize)
 }
 
-/// Takes the step at the head of the words, and the words after it; none where none can be read.
-#[inline]
-fn next_step(words: &[i32]) -> Option<(Step<'_>, &[i32])> {
+/// The step that changes values at the head of the words, and the words after it; none where there is none.
+pub fn step(words: &[i32]) -> Option<(Step<'_>, &[i32])> {
     match *words {
         [1, k @ 0..=3, lo, hi, ref rest @ ..] if lo <= hi => {
             let k = k as usize;
             Some((Step::Limit { k, lo, hi }, rest))
         }
         [2, m, h, ref rest @ ..] => {
-            let m = one_to_four(m)?;
-            let hival = u8::try_from(h).ok()?;
-            let (entries, rest) = rest.split_at_checked(m * (usize::from(hival) + 1))?;
-            Some((Step::Palette { m, hival, entries }, rest))
+            let (m, h) = (one_to_four(m)?, u8::try_from(h).ok()?);
+            let (entries, rest) = rest.split_at_checked(m * (usize::from(h) + 1))?;
+            Some((Step::Rows { m, h, entries }, rest))
         }
         [3, e, m, ref rest @ ..] => {
-            let exponent = one_to_four(e)? as u8;
-            let m = one_to_four(m)?;
+            let (e, m) = (one_to_four(e)? as u8, one_to_four(m)?);
             let (c0, rest) = rest.split_at_checked(m)?;
             let (c1, rest) = rest.split_at_checked(m)?;
-            Some((Step::Tint { exponent, c0, c1 }, rest))
+            Some((Step::Tint { e, c0, c1 }, rest))
         }
-        [4, ref rest @ ..] => Some((Step::Close(Closing::Gray), rest)),
-        [5, ref rest @ ..] => Some((Step::Close(Closing::Rgb), rest)),
-        [6, ref rest @ ..] => Some((Step::Close(Closing::Cmyk), rest)),
-        [7, xw, zw, gamma, ref rest @ ..] => {
-            let units = house_units(gamma)?;
-            Some((Step::Close(Closing::CalGray { xw, zw, units }), rest))
-        }
-        [8, g1, g2, g3, ref rest @ ..] => {
-            let units = [house_units(g1)?, house_units(g2)?, house_units(g3)?];
-            let (matrix, rest) = rest.split_first_chunk::<9>()?;
-            let matrix = *matrix;
-            Some((Step::Close(Closing::CalRgb { units, matrix }), rest))
-        }
-        [9, xw, zw, ref rest @ ..] => Some((Step::Close(Closing::Lab { xw, zw }), rest)),
         _ => None,
     }
 }
 
-/// Whether words are steps, one closing step and nothing more.
-fn well_formed(mut words: &[i32]) -> bool {
-    loop {
-        match next_step(words) {
-            Some((Step::Close(_), rest)) => return rest.is_empty(),
-            Some((_, rest)) => words = rest,
-            None => return false,
+/// The closing step that these words are, all of them; none where they are not one. "Gammas as the house limit; words
+/// given no bound here may be any."
+pub fn closing(words: &[i32]) -> Option<Closing> {
+    match *words {
+        [4] => Some(Closing::Gray),
+        [5] => Some(Closing::Rgb),
+        [6] => Some(Closing::Cmyk),
+        [7, xw, zw, gamma] => {
+            let units = house_units(gamma)?;
+            Some(Closing::CalGray { xw, zw, units })
         }
+        [8, g1, g2, g3, ref matrix @ ..] => {
+            let units = [house_units(g1)?, house_units(g2)?, house_units(g3)?];
+            let matrix = matrix.try_into().ok()?;
+            Some(Closing::CalRgb { units, matrix })
+        }
+        [9, xw, zw] => Some(Closing::Lab { xw, zw }),
+        _ => None,
     }
 }
 
-/// Runs a recipe on a colour. The whole recipe is read first (refusal 11),
-/// then the count of components is met (9); then the steps are taken.
-pub fn run(words: &[i32], colour: &[i32]) -> Answer {
+/// Reads a recipe; none where it is ill-formed. "A recipe longer than 1,045 words is ill-formed."
+fn read(words: &[i32]) -> Option<Recipe<'_>> {
     if words.len() > MOST_WORDS {
-        return refused(11);
+        return None;
     }
-    let Some((&count, steps)) = words.split_first() else {
+    let (count, mut rest) = words.split_first()?;
+    let count = one_to_four(*count)?;
+    let mut steps = Vec::new();
+    while let Some((step, after)) = step(rest) {
+        steps.push(step);
+        rest = after;
+    }
+    let closing = closing(rest)?;
+    Some(Recipe {
+        count,
+        steps,
+        closing,
+    })
+}
+
+/// "Running: 11, 9." Then the steps, on "four values, those not given being 0".
+pub fn run(words: &[i32], colour: &[i32]) -> Answer {
+    let Some(recipe) = read(words) else {
         return refused(11);
     };
-    let Some(count) = one_to_four(count) else {
-        return refused(11);
-    };
-    if !well_formed(steps) {
-        return refused(11);
-    }
-    if colour.len() != count {
+    if colour.len() != recipe.count {
         return refused(9);
     }
-    let mut values = [0; 4];
-    for (value, component) in values.iter_mut().zip(colour) {
-        *value = *component;
+    let mut values = values_of(colour);
+    for step in &recipe.steps {
+        take(step, &mut values);
     }
-    let mut left = steps;
-    loop {
-        let Some((step, rest)) = next_step(left) else {
-            return refused(11);
-        };
-        left = rest;
-        match step {
-            Step::Limit { k, lo, hi } => values[k] = limit(values[k], lo, hi),
-            Step::Palette { m, hival, entries } => {
-                let row = usize::from(index(values[0], hival));
-                for (value, entry) in values.iter_mut().zip(&entries[row * m..][..m]) {
-                    *value = *entry;
-                }
+    close(&recipe.closing, values)
+}
+
+/// Takes a step.
+fn take(step: &Step<'_>, values: &mut [i32; 4]) {
+    match *step {
+        Step::Limit { k, lo, hi } => values[k] = limit(values[k], lo, hi),
+        Step::Rows { m, h, entries } => {
+            let row = usize::from(index(values[0], h));
+            values[..m].copy_from_slice(&entries[row * m..(row + 1) * m]);
+        }
+        Step::Tint { e, c0, c1 } => {
+            let q = tint_power(limit(values[0], 0, ONE), e);
+            for (k, (c0, c1)) in c0.iter().zip(c1).enumerate() {
+                values[k] = tint_value(*c0, *c1, q);
             }
-            Step::Tint { exponent, c0, c1 } => {
-                let q = tint_power(limit(values[0], 0, ONE), exponent);
-                for (value, (c0, c1)) in values.iter_mut().zip(c0.iter().zip(c1)) {
-                    *value = tint_value(*c0, *c1, q);
-                }
-            }
-            Step::Close(closing) => return close(closing, values),
         }
     }
 }
 
 /// The answer of a closing step for the values as they stand.
-fn close(closing: Closing, values: [i32; 4]) -> Answer {
-    let [a, b, c, _] = values;
-    match closing {
+pub fn close(closing: &Closing, values: [i32; 4]) -> Answer {
+    let [a, b, c, d] = values;
+    match *closing {
         Closing::Gray => Answer::Gray(float_of(a)),
         Closing::Rgb => Answer::Rgb([a, b, c].map(float_of)),
-        Closing::Cmyk => Answer::Cmyk(values.map(float_of)),
+        Closing::Cmyk => Answer::Cmyk([a, b, c, d].map(float_of)),
         Closing::CalGray { xw, zw, units } => Answer::Xyz(cal_gray(xw, zw, units, a)),
         Closing::CalRgb { units, matrix } => Answer::Xyz(cal_rgb(units, matrix, [a, b, c])),
         Closing::Lab { xw, zw } => Answer::Xyz(lab(xw, zw, a, b, c)),

@@ -1,4 +1,4 @@
-//! Writing recipes and running them.
+//! Writing recipes, and that running one is evaluating on its page.
 
 mod common;
 
@@ -6,23 +6,17 @@ use common::*;
 use reference::block::{Body, BLOCK, DEVICE_CMYK, DEVICE_GRAY, DEVICE_RGB};
 use reference::cie::Answer;
 use reference::colour::evaluate;
-use reference::generate::{
-    damage, damage_recipe, long_recipe, random_components, random_page, random_recipe, Rng,
-};
-use reference::numbers::{float_of, ONE};
-use reference::page::{components, spaces, validate};
+use reference::generate::{damage, random_components, random_page, Rng};
+use reference::numbers::ONE;
+use reference::page::{block_at, components, family, spaces, validate, Family};
 use reference::recipe::{recipe_of, write, MOST_WORDS};
 use reference::runner::run;
 
-/// How many chance pages are looked at: fewer where the tests are not built for speed.
+/// How many random pages are looked at: fewer where the tests are not built for speed.
 const PAGES: usize = if cfg!(debug_assertions) { 60 } else { 500 };
 
 const NINE: Answer = Answer::Refused {
     number: 9,
-    block: 0,
-};
-const ELEVEN: Answer = Answer::Refused {
-    number: 11,
     block: 0,
 };
 
@@ -37,6 +31,35 @@ fn asked(page: &[u8]) -> Vec<u32> {
     numbers
 }
 
+/// "Lengths: Gray 6, RGB 14, CMYK 18, CalGray 9, CalRGB 26, Lab 16; Indexed adds 3 + m(hival + 1), Separation 3 + 2m."
+fn length(page: &[u8], number: u32) -> usize {
+    let inner = |reference: u16| {
+        let inner = u32::from(reference);
+        (components(page, inner).unwrap(), length(page, inner))
+    };
+    match family(page, number).unwrap() {
+        Family::DeviceGray => 6,
+        Family::DeviceRgb => 14,
+        Family::DeviceCmyk => 18,
+        Family::CalGray => 9,
+        Family::CalRgb => 26,
+        Family::Lab => 16,
+        Family::Indexed | Family::Separation => {
+            match block_at(page, number as usize).and_then(Body::of) {
+                Some(Body::Indexed { base, hival }) => {
+                    let (m, words) = inner(base);
+                    words + 3 + m * (usize::from(hival) + 1)
+                }
+                Some(Body::Separation { alternate, .. }) => {
+                    let (m, words) = inner(alternate);
+                    words + 3 + 2 * m
+                }
+                _ => unreachable!(),
+            }
+        }
+    }
+}
+
 #[test]
 fn a_recipe_run_equals_the_colour_on_the_page() {
     let mut rng = Rng::new(5);
@@ -46,6 +69,7 @@ fn a_recipe_run_equals_the_colour_on_the_page() {
         assert!(validate(&page).is_ok());
         for number in asked(&page) {
             let words = recipe_of(&page, number).unwrap();
+            assert_eq!(words.len(), length(&page, number));
             longest = longest.max(words.len());
             let count = components(&page, number).unwrap();
             for _ in 0..12 {
@@ -162,363 +186,4 @@ fn asking_for_what_is_no_space_is_8() {
             block: 1
         }
     );
-}
-
-#[test]
-fn the_least_recipes() {
-    assert_eq!(run(&[1, 4], &[-7 * ONE]), Answer::Gray(-7.0));
-    assert_eq!(run(&[2, 4], &[ONE, 5]), Answer::Gray(1.0));
-    // Values not given are 0.
-    assert_eq!(run(&[1, 6], &[ONE]), Answer::Cmyk([1.0, 0.0, 0.0, 0.0]));
-    // k may be beyond the input count.
-    assert_eq!(
-        run(&[1, 1, 3, ONE, ONE, 6], &[0]),
-        Answer::Cmyk([0.0, 0.0, 0.0, 1.0])
-    );
-    // Values that a step does not replace stay.
-    assert_eq!(
-        run(&[3, 2, 1, 0, 9 * ONE, 5], &[ONE, ONE, 2 * ONE]),
-        Answer::Rgb([9.0, 1.0, 2.0])
-    );
-    assert_eq!(
-        run(&[3, 3, 1, 2, 0, 0, ONE, 2 * ONE, 5], &[500_000, 7, ONE]),
-        Answer::Rgb([0.5, 1.0, 1.0])
-    );
-    // The tint step limits value 0 first.
-    assert_eq!(
-        run(&[1, 3, 1, 1, 5, 7 * ONE, 4], &[i32::MAX]),
-        Answer::Gray(7.0)
-    );
-    assert_eq!(
-        run(&[1, 3, 4, 1, 5, 7 * ONE, 4], &[i32::MIN]),
-        Answer::Gray(float_of(5))
-    );
-    // A white point of 0 or below may stand in a recipe; signed zeros are kept.
-    assert_eq!(
-        run(&[1, 7, -1, 0, ONE], &[0]),
-        Answer::Xyz([-0.0, 0.0, 0.0])
-    );
-    assert_eq!(
-        run(&[3, 9, -ONE, 0], &[100 * ONE, 0, 0]),
-        Answer::Xyz([-1.0, 1.0, 0.0])
-    );
-}
-
-#[test]
-fn ill_formed_recipes_are_11() {
-    let nine = [0; 9];
-    let matrix = |gammas: [i32; 3], numbers: &[i32]| [&[1, 8][..], &gammas, numbers].concat();
-    let ill: Vec<Vec<i32>> = vec![
-        vec![],
-        vec![0, 4],
-        vec![5, 4],
-        vec![-1, 4],
-        vec![i32::MIN, 4],
-        vec![1],
-        vec![1, 0],
-        vec![1, 10],
-        vec![1, -4],
-        vec![1, 4, 4],
-        vec![1, 4, 0],
-        vec![1, 1, 0, 0, 1],
-        vec![1, 1, 0, 0],
-        vec![1, 1, -1, 0, 1, 4],
-        vec![1, 1, 4, 0, 1, 4],
-        vec![1, 1, 0, 1, 0, 4],
-        vec![1, 2, 0, 0, 4],
-        vec![1, 2, 5, 0, 1, 2, 3, 4, 5, 4],
-        vec![1, 2, 1, -1, 4],
-        vec![1, 2, 1, 0],
-        vec![1, 2, 1, 0, 4],
-        vec![1, 2, i32::MAX, i32::MAX, 4],
-        [vec![1, 2, 1, 256], vec![0; 257], vec![4]].concat(),
-        vec![1, 3, 0, 1, 0, 0, 4],
-        vec![1, 3, 5, 1, 0, 0, 4],
-        vec![1, 3, 1, 0, 4],
-        vec![1, 3, 1, 5, 0, 0, 0, 0, 0, 0, 0, 0, 0, 0, 4],
-        vec![1, 3, 1, 1, 0, 4],
-        vec![1, 7, 0, 0],
-        vec![1, 7, 0, 0, 0],
-        vec![1, 7, 0, 0, 1],
-        vec![1, 7, 0, 0, 5 * ONE],
-        vec![1, 7, 0, 0, ONE + 1],
-        vec![1, 7, 0, 0, ONE, 0],
-        matrix([0, ONE, ONE], &nine),
-        matrix([ONE, 0, ONE], &nine),
-        matrix([ONE, ONE, 0], &nine),
-        matrix([ONE; 3], &nine[..8]),
-        matrix([ONE; 3], &[0; 10]),
-        vec![1, 9, 0],
-        vec![1, 9, 0, 0, 0],
-    ];
-    for words in &ill {
-        for colour in [&[][..], &[0], &[0, 0]] {
-            assert_eq!(run(words, colour), ELEVEN, "{words:?}");
-        }
-    }
-    for words in [
-        vec![1, 4],
-        vec![4, 6],
-        vec![1, 7, 0, 0, 4 * ONE],
-        matrix([ONE; 3], &nine),
-        vec![1, 9, 0, 0],
-        vec![1, 1, 3, 5, 5, 2, 1, 0, 9, 3, 4, 1, 0, 0, 4],
-        [vec![1, 2, 1, 255], vec![0; 256], vec![4]].concat(),
-    ] {
-        assert_eq!(run(&words, &[]), NINE, "{words:?}");
-        assert!(!matches!(
-            run(&words, &[0; 4][..words[0] as usize]),
-            Answer::Refused { .. }
-        ));
-    }
-}
-
-#[test]
-fn a_recipe_of_more_than_1045_words_is_11() {
-    // A closing step after 260 limits is 1042 words; a tint step of 5 would be 1047.
-    let limits = |count: usize| {
-        let mut words = vec![1];
-        for _ in 0..count {
-            words.extend([1, 0, 0, ONE]);
-        }
-        words
-    };
-    let mut words = limits(258);
-    words.extend([2, 1, 6, 1, 1, 1, 1, 1, 1, 1, 4]);
-    assert_eq!(words.len(), 1044);
-    assert_eq!(run(&words, &[0]), Answer::Gray(float_of(1)));
-    let mut words = limits(258);
-    words.extend([2, 1, 7, 1, 1, 1, 1, 1, 1, 1, 1, 4]);
-    assert_eq!(words.len(), 1045);
-    assert_eq!(run(&words, &[0]), Answer::Gray(float_of(1)));
-    let mut words = limits(258);
-    words.extend([2, 1, 8, 1, 1, 1, 1, 1, 1, 1, 1, 1, 4]);
-    assert_eq!(words.len(), 1046);
-    assert_eq!(run(&words, &[0]), ELEVEN);
-    assert_eq!(run(&vec![4; 100_000], &[0]), ELEVEN);
-}
-
-/// A slow second runner: words taken one at a time, exact fractions in i128. None is 11.
-fn slow(words: &[i32], colour: &[i32]) -> Option<Answer> {
-    if words.len() > 1045 {
-        return None;
-    }
-    let mut queue = words.iter().map(|word| i128::from(*word));
-    let floor_half = |top: i128, below: i128| (2 * top + below).div_euclid(2 * below);
-    let count = queue.next().filter(|count| (1..5).contains(count))?;
-    let mut values: Vec<i128> = colour.iter().map(|v| i128::from(*v)).collect();
-    values.resize(4, 0);
-    let float = |v: i128| v as f64 / 1_000_000.0;
-    let answer = loop {
-        let code = queue.next()?;
-        match code {
-            1 => {
-                let (k, lo, hi) = (queue.next()?, queue.next()?, queue.next()?);
-                if !(0..4).contains(&k) || lo > hi {
-                    return None;
-                }
-                values[k as usize] = values[k as usize].max(lo).min(hi);
-            }
-            2 => {
-                let (m, h) = (queue.next()?, queue.next()?);
-                if !(1..5).contains(&m) || !(0..256).contains(&h) {
-                    return None;
-                }
-                let row = floor_half(values[0], 1_000_000).max(0).min(h);
-                for r in 0..=h {
-                    for k in 0..m {
-                        let entry = queue.next()?;
-                        if r == row {
-                            values[k as usize] = entry;
-                        }
-                    }
-                }
-            }
-            3 => {
-                let (e, m) = (queue.next()?, queue.next()?);
-                if !(1..5).contains(&e) || !(1..5).contains(&m) {
-                    return None;
-                }
-                let x = values[0].clamp(0, 1_000_000);
-                let mut q = x;
-                for _ in 1..e {
-                    q = floor_half(q * x, 1_000_000);
-                }
-                let c: Vec<i128> = (0..2 * m).map_while(|_| queue.next()).collect();
-                let m = m as usize;
-                if c.len() != 2 * m {
-                    return None;
-                }
-                for k in 0..m {
-                    // The whole sum over one million, and only then the floor.
-                    values[k] = floor_half(c[k] * 1_000_000 + q * (c[m + k] - c[k]), 1_000_000);
-                }
-            }
-            4 => break Answer::Gray(float(values[0])),
-            5 => break Answer::Rgb([float(values[0]), float(values[1]), float(values[2])]),
-            6 => {
-                break Answer::Cmyk([
-                    float(values[0]),
-                    float(values[1]),
-                    float(values[2]),
-                    float(values[3]),
-                ])
-            }
-            7 => {
-                let (xw, zw, gamma) = (queue.next()?, queue.next()?, queue.next()?);
-                let a = slow_decode(float(values[0]), gamma)?;
-                break Answer::Xyz([float(xw) * a, a, float(zw) * a]);
-            }
-            8 => {
-                let mut decoded = [0.0; 3];
-                for k in 0..3 {
-                    decoded[k] = slow_decode(float(values[k]), queue.next()?)?;
-                }
-                let m: Vec<f64> = queue.by_ref().take(9).map(float).collect();
-                if m.len() != 9 {
-                    return None;
-                }
-                let mut xyz = [0.0; 3];
-                for (k, out) in xyz.iter_mut().enumerate() {
-                    let first = m[k] * decoded[0];
-                    let second = m[3 + k] * decoded[1];
-                    let third = m[6 + k] * decoded[2];
-                    *out = (first + second) + third;
-                }
-                break Answer::Xyz(xyz);
-            }
-            9 => {
-                let (xw, zw) = (queue.next()?, queue.next()?);
-                let (l, a, b) = (values[0], values[1], values[2]);
-                let l16 = l + 16_000_000;
-                let g = |whole: i128, seam: i128, below: f64, start: i128, slope: f64| {
-                    if whole >= seam {
-                        let x = whole as f64 / below;
-                        (x * x) * x
-                    } else {
-                        (108 * (whole - start)) as f64 / slope
-                    }
-                };
-                let first = g(
-                    125 * l16 + 29 * a,
-                    3_000_000_000,
-                    14.5e9,
-                    2_000_000_000,
-                    12_194.5e9,
-                );
-                let second = g(l16, 24_000_000, 116e6, 16_000_000, 97_556e6);
-                let third = g(
-                    50 * l16 - 29 * b,
-                    1_200_000_000,
-                    5.8e9,
-                    800_000_000,
-                    4_877.8e9,
-                );
-                break Answer::Xyz([float(xw) * first, second, float(zw) * third]);
-            }
-            _ => return None,
-        }
-    };
-    if queue.next().is_some() {
-        return None;
-    }
-    if count != colour.len() as i128 {
-        return Some(NINE);
-    }
-    Some(answer)
-}
-
-/// Decode for the slow runner; none for a gamma that is not 1, 2, 3 or 4 in millionths.
-fn slow_decode(a: f64, gamma: i128) -> Option<f64> {
-    match gamma {
-        1_000_000 => Some(a),
-        2_000_000 => Some(a * a),
-        3_000_000 => Some((a * a) * a),
-        4_000_000 => Some(((a * a) * a) * a),
-        _ => None,
-    }
-}
-
-#[test]
-fn chance_recipes_run_alike() {
-    let mut rng = Rng::new(8);
-    let (mut answered, mut ill) = (0, 0);
-    for round in 0..100_000 {
-        let mut words = random_recipe(&mut rng);
-        assert!(words.len() <= MOST_WORDS);
-        let mut count = words[0] as usize;
-        if round % 2 == 1 {
-            damage_recipe(&mut rng, &mut words);
-        }
-        if rng.once_in(10) {
-            count = rng.below(6);
-        }
-        let colour = random_components(&mut rng, count);
-        let reply = run(&words, &colour);
-        assert_eq!(reply, slow(&words, &colour).unwrap_or(ELEVEN), "{words:?}");
-        answered += u32::from(!matches!(reply, Answer::Refused { .. }));
-        ill += u32::from(reply == ELEVEN);
-        if round % 2 == 0 {
-            assert_eq!(reply == NINE, count != words[0] as usize);
-            assert_ne!(reply, ELEVEN);
-        }
-    }
-    assert!(answered > 50_000 && ill > 20_000);
-}
-
-#[test]
-fn long_recipes_have_the_words_that_are_asked_for() {
-    let mut rng = Rng::new(13);
-    for length in (30..200).chain(1_000..1_100) {
-        for _ in 0..20 {
-            let words = long_recipe(&mut rng, length);
-            assert_eq!(words.len(), length);
-            let colour = random_components(&mut rng, words[0] as usize);
-            let reply = run(&words, &colour);
-            assert_eq!(reply, slow(&words, &colour).unwrap_or(ELEVEN), "{words:?}");
-            assert_eq!(reply == ELEVEN, length > MOST_WORDS);
-        }
-    }
-}
-
-#[test]
-fn chance_words_run_alike() {
-    let mut rng = Rng::new(9);
-    let mut answered = 0;
-    for _ in 0..300_000 {
-        let length = rng.below(12);
-        let words: Vec<i32> = (0..length)
-            .map(|_| match rng.below(4) {
-                0 => rng.number(),
-                _ => rng.between(0, 9),
-            })
-            .collect();
-        let count = rng.below(5);
-        let colour = random_components(&mut rng, count);
-        let reply = run(&words, &colour);
-        assert_eq!(reply, slow(&words, &colour).unwrap_or(ELEVEN), "{words:?}");
-        answered += u32::from(!matches!(reply, Answer::Refused { .. }));
-    }
-    assert!(answered > 300, "{answered}");
-}
-
-#[test]
-fn a_recipe_cut_short_is_11() {
-    let mut rng = Rng::new(10);
-    for _ in 0..2_000 {
-        let page = random_page(&mut rng);
-        let numbers = asked(&page);
-        let number = rng.pick(&numbers, 0xff01);
-        let mut words = recipe_of(&page, number).unwrap();
-        let colour = random_components(&mut rng, components(&page, number).unwrap());
-        assert_eq!(
-            slow(&words, &colour),
-            Some(evaluate(&page, number, &colour))
-        );
-        words.push(rng.between(0, 9));
-        assert_eq!(run(&words, &colour), ELEVEN);
-        words.pop();
-        words.truncate(rng.below(words.len()));
-        assert_eq!(run(&words, &colour), ELEVEN);
-    }
 }

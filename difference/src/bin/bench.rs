@@ -1,6 +1,8 @@
-//! `bench`: measures the proved library beside the second implementation, and prints markdown tables.
-//! Each figure is the least of several rounds, after a warm-up.
+//! `bench`: measures the proved library beside two rivals, and prints markdown tables: the fast rival
+//! (`difference::fast`) and the plain reference (`reference/`). Each figure is the least of several
+//! rounds, after a warm-up.
 
+use difference::fast;
 use reference::block::{DEVICE_CMYK, DEVICE_GRAY, DEVICE_RGB};
 use reference::generate::Rng;
 use reference::numbers::ONE;
@@ -133,8 +135,10 @@ fn validation(full: &[u8]) {
     println!("| {} bytes, 64 blocks | GB/s |", full.len());
     println!("|---|---|");
     println!("| `validate` | {:.2} |", speed(full, sktelbaan::validate));
-    let second = speed(full, reference::page::validate);
-    println!("| the second implementation | {second:.2} |");
+    let rival = speed(full, fast::validate);
+    println!("| the fast rival | {rival:.2} |");
+    let plain = speed(full, reference::page::validate);
+    println!("| the plain reference | {plain:.2} |");
     let free = page(&(0..64).map(free).collect::<Vec<_>>());
     assert!(sktelbaan::validate(&free).is_ok());
     let empty = speed(&free, sktelbaan::validate);
@@ -154,13 +158,13 @@ fn per_colour<T>(colours: &Colours, work: impl Fn(&[i32]) -> T) -> f64 {
     time / colours.count()
 }
 
-/// The nanoseconds of one run of a recipe, here and in the second implementation.
-fn run_times(words: &[i32], colours: &Colours) -> [f64; 2] {
-    assert!(colours
-        .each()
-        .all(|colour| sktelbaan::run(words, colour).is_ok()));
+/// The nanoseconds of one run of a recipe: the proved library, the fast rival, the plain reference.
+fn run_times(words: &[i32], colours: &Colours) -> [f64; 3] {
+    let answered = |colour: &[i32]| sktelbaan::run(words, colour).is_ok();
+    assert!(colours.each().all(answered));
     [
         per_colour(colours, |colour| sktelbaan::run(black_box(words), colour)),
+        per_colour(colours, |colour| fast::run(black_box(words), colour)),
         per_colour(colours, |colour| {
             reference::runner::run(black_box(words), colour)
         }),
@@ -169,34 +173,39 @@ fn run_times(words: &[i32], colours: &Colours) -> [f64; 2] {
 
 /// Runs of recipes, for every family.
 fn runs() {
-    println!("| `run` | words | ns per colour | the second implementation |");
-    println!("|---|---|---|---|");
-    let [ours, second] = run_times(&[1, 4], &Colours::new(&[(0, ONE)], COLOURS));
-    println!("| the shortest recipe, `1 4` | 2 | {ours:.1} | {second:.1} |");
+    println!("| ns per colour | words | `run` | the fast rival | the plain reference |");
+    println!("|---|---|---|---|---|");
+    let row = |name: &str, words: &[i32], colours: &Colours| {
+        let [ours, rival, plain] = run_times(words, colours);
+        let count = words.len();
+        println!("| {name} | {count} | {ours:.1} | {rival:.1} | {plain:.1} |");
+    };
+    let gray = Colours::new(&[(0, ONE)], COLOURS);
+    row("the shortest recipe, `1 4`", &[1, 4], &gray);
     for space in spaces() {
         let words = sktelbaan::recipe(&space.page, space.number).expect("the page is accepted");
-        let colours = Colours::new(&space.ranges, COLOURS);
-        let [ours, second] = run_times(&words, &colours);
-        let (name, count) = (space.name, words.len());
-        println!("| {name} | {count} | {ours:.1} | {second:.1} |");
+        row(space.name, &words, &Colours::new(&space.ranges, COLOURS));
     }
 }
 
 /// Colours on pages: on as few blocks as the space needs, and on a full page.
 fn evaluations(full: &[u8]) {
-    println!("| `evaluate` | blocks | ns per colour | the second implementation |");
-    println!("|---|---|---|---|");
+    println!("| ns per colour | blocks | `evaluate` | the fast rival | the plain reference |");
+    println!("|---|---|---|---|---|");
     let row = |name: &str, page: &[u8], number, colours: &Colours| {
         let answered = |colour: &[i32]| sktelbaan::evaluate(page, number, colour).is_ok();
         assert!(colours.each().all(answered));
         let ours = per_colour(colours, |colour| {
             sktelbaan::evaluate(black_box(page), number, colour)
         });
-        let second = per_colour(colours, |colour| {
+        let rival = per_colour(colours, |colour| {
+            fast::evaluate(black_box(page), number, colour)
+        });
+        let plain = per_colour(colours, |colour| {
             reference::colour::evaluate(black_box(page), number, colour)
         });
         let blocks = page.len() / 512;
-        println!("| {name} | {blocks} | {ours:.0} | {second:.0} |");
+        println!("| {name} | {blocks} | {ours:.0} | {rival:.0} | {plain:.0} |");
     };
     for space in spaces().iter().filter(|space| space.page.len() == 512) {
         let colours = Colours::new(&space.ranges, 256);
@@ -258,15 +267,15 @@ mod lcms {
             .zip(&xyz)
             .map(|(a, b)| (a - b).abs())
             .fold(0.0, f64::max);
-        let [ours, second] = run_times(&words, &colours);
-        let theirs = time / colours.count();
-        println!("| {name} | {ours:.1} | {second:.1} | {theirs:.1} | {apart:.1e} |");
+        let [ours, rival, plain] = run_times(&words, &colours);
+        let lcms = time / colours.count();
+        println!("| {name} | {ours:.1} | {rival:.1} | {plain:.1} | {lcms:.1} | {apart:.1e} |");
     }
 
     /// Both rows.
     pub fn rows() {
-        println!("| ns per colour | `run` | the second implementation | LittleCMS | greatest difference |");
-        println!("|---|---|---|---|---|");
+        println!("| ns per colour | `run` | the fast rival | the plain reference | LittleCMS | greatest difference |");
+        println!("|---|---|---|---|---|---|");
         let hundred = (-100 * ONE, 100 * ONE);
         row(
             "Lab, `cmsLab2XYZ`",

@@ -1,0 +1,45 @@
+//! The fast rival: what the second implementation does, written for speed where the benchmark spends its time.
+//!
+//! `reference/` is plain and says what document 01 says. A benchmark beside it alone would flatter the proved library,
+//! so this one is measured too; nothing else uses it. The tests hold it to the plain one on random input.
+//!
+//! - `validate`: the check is summed in columns, zeros are sought without an early way out, and a palette block is
+//!   known to be astray by the end of the last run.
+//! - `run`: a recipe is read in place, with no list of its steps, and roundings keep to 64 bits.
+//! - `evaluate`: the fast validation, then the plain colour steps.
+
+mod run;
+mod validate;
+
+pub use run::run;
+pub use validate::{sums, validate};
+
+use reference::cie::Answer;
+use reference::colour::answer;
+use reference::page::components;
+
+/// A refusal that is about no block.
+fn refused(number: u32) -> Answer {
+    Answer::Refused { number, block: 0 }
+}
+
+/// The four values that a colour starts with.
+fn values_of(colour: &[i32]) -> [i32; 4] {
+    let mut values = [0; 4];
+    for (value, component) in values.iter_mut().zip(colour) {
+        *value = *component;
+    }
+    values
+}
+
+/// Answers a colour on a page.
+pub fn evaluate(page: &[u8], number: u32, colour: &[i32]) -> Answer {
+    if let Err((number, block)) = validate(page) {
+        return Answer::Refused { number, block };
+    }
+    match components(page, number) {
+        None => refused(8),
+        Some(count) if colour.len() != count => refused(9),
+        Some(_) => answer(page, number, values_of(colour)),
+    }
+}

@@ -1,0 +1,72 @@
+//! Running a recipe in one pass over its words.
+
+use super::{refused, values_of};
+use reference::cie::Answer;
+use reference::numbers::{limit, ONE};
+use reference::recipe::MOST_WORDS;
+use reference::runner::{close, closing, step, Step};
+
+/// Half-up rounding of n / d, for an n that 64 bits hold with room to spare.
+fn half_up(n: i64, d: i64) -> i64 {
+    let (floor, rest) = (n.div_euclid(d), n.rem_euclid(d));
+    floor + i64::from(2 * rest >= d)
+}
+
+/// The row that a component picks of 0..h.
+fn index(v: i32, h: u8) -> usize {
+    half_up(i64::from(v), 1_000_000).clamp(0, i64::from(h)) as usize
+}
+
+/// A tint in 0..1000000 to its exponent.
+fn tint_power(x: i64, e: u8) -> i64 {
+    (1..e).fold(x, |q, _| half_up(q * x, 1_000_000))
+}
+
+/// One component of a tint's result, q in 0..1000000.
+fn tint_value(c0: i32, c1: i32, q: i64) -> i32 {
+    let (c0, c1) = (i64::from(c0), i64::from(c1));
+    (c0 + half_up(q * (c1 - c0), 1_000_000)) as i32
+}
+
+/// Takes a step.
+fn take(step: Step<'_>, values: &mut [i32; 4]) {
+    match step {
+        Step::Limit { k, lo, hi } => values[k] = limit(values[k], lo, hi),
+        Step::Rows { m, h, entries } => {
+            let row = index(values[0], h);
+            for (value, entry) in values.iter_mut().zip(&entries[row * m..][..m]) {
+                *value = *entry;
+            }
+        }
+        Step::Tint { e, c0, c1 } => {
+            let q = tint_power(i64::from(limit(values[0], 0, ONE)), e);
+            for (value, (c0, c1)) in values.iter_mut().zip(c0.iter().zip(c1)) {
+                *value = tint_value(*c0, *c1, q);
+            }
+        }
+    }
+}
+
+/// Runs a recipe on a colour. Each step is taken as soon as it is read: nothing comes of it should a later word be
+/// ill-formed or the count of components wrong.
+pub fn run(words: &[i32], colour: &[i32]) -> Answer {
+    let [count @ 1..=4, steps @ ..] = words else {
+        return refused(11);
+    };
+    if words.len() > MOST_WORDS {
+        return refused(11);
+    }
+    let mut values = values_of(colour);
+    let mut left = steps;
+    while let Some((step, rest)) = step(left) {
+        take(step, &mut values);
+        left = rest;
+    }
+    let Some(closing) = closing(left) else {
+        return refused(11);
+    };
+    if colour.len() != *count as usize {
+        return refused(9);
+    }
+    close(&closing, values)
+}

@@ -1,0 +1,126 @@
+//! What a record must meet by itself: refusals 3, 4 and 5, and 6 for a block without its page.
+
+use super::{Body, Record, BLOCK, CHECK_AT, MOST_BLOCKS, NAME, NAME_AT};
+use super::{DEVICE_CMYK, DEVICE_GRAY, DEVICE_RGB};
+use crate::numbers::{house_units, ONE};
+
+/// Whether all of these bytes are zero.
+fn zero(bytes: &[u8]) -> bool {
+    bytes.iter().all(|byte| *byte == 0)
+}
+
+/// Refused with 3 is a "name length not 1..127, or a zero byte in the name"; and zero "are name bytes past the
+/// name's length".
+fn name_holds(name: &[u8], length: u8) -> bool {
+    let length = usize::from(length);
+    (1..=127).contains(&length) && !name[..length].contains(&0) && zero(&name[length..])
+}
+
+/// Refused with 3 is an "unknown kind" and "a byte not zero that must be": byte 1 is zero, and "body bytes not named
+/// are zero". A block's own number is looked at by the caller.
+pub fn form_holds(block: &[u8; BLOCK]) -> bool {
+    let (kind, name_length) = (block[0], block[7]);
+    // By the table of kinds, the first byte after those that are named.
+    let named_to = match kind {
+        0 => 4,
+        1 => 32,
+        2 => 76,
+        3 => 44,
+        4 => 8,
+        5 => 168,
+        6 => CHECK_AT,
+        _ => return false,
+    };
+    let name = &block[NAME_AT..NAME_AT + NAME];
+    block[1] == 0
+        && zero(&block[named_to..CHECK_AT])
+        && (kind != 5 || name_holds(name, name_length))
+}
+
+/// "White X and Z above 0, Y exactly 1; black not below 0."
+fn points_hold([xw, yw, zw]: &[i32; 3], black: &[i32; 3]) -> bool {
+    *xw > 0 && *zw > 0 && *yw == ONE && black.iter().all(|v| *v >= 0)
+}
+
+/// A reference that is a device code: "FF01, FF03, FF04 (hexadecimal) for DeviceGray, RGB, CMYK".
+fn is_device(reference: u16) -> bool {
+    [DEVICE_GRAY, DEVICE_RGB, DEVICE_CMYK].contains(&reference)
+}
+
+impl Body {
+    /// "Clause rules: white X and Z above 0, Y exactly 1; black not below 0; CalGray gamma above 0; amin <= amax,
+    /// bmin <= bmax; hival 0 to 255."
+    fn clause_holds(&self) -> bool {
+        match self {
+            Body::Free | Body::Separation { .. } | Body::Palette => true,
+            Body::CalGray {
+                white,
+                black,
+                gamma,
+            } => points_hold(white, black) && *gamma > 0,
+            Body::CalRgb { white, black, .. } => points_hold(white, black),
+            Body::Lab {
+                white,
+                black,
+                range: [amin, amax, bmin, bmax],
+            } => points_hold(white, black) && amin <= amax && bmin <= bmax,
+            Body::Indexed { hival, .. } => *hival <= 255,
+        }
+    }
+
+    /// "House limits: each gamma and each exponent is whole, 1 to 4 (the exponent byte counts units)."
+    fn house_holds(&self) -> bool {
+        let carried = |gamma: &i32| house_units(*gamma).is_some();
+        match self {
+            Body::CalGray { gamma, .. } => carried(gamma),
+            Body::CalRgb { gammas, .. } => gammas.iter().all(carried),
+            Body::Separation { exponent, .. } => (1..=4).contains(exponent),
+            _ => true,
+        }
+    }
+
+    /// The refusal of a record's own numbers, 4 before 5: "a number breaks a clause rule", "a gamma or exponent is
+    /// beyond the house limit".
+    pub fn number_refusal(&self) -> Option<u32> {
+        if !self.clause_holds() {
+            Some(4)
+        } else if !self.house_holds() {
+            Some(5)
+        } else {
+            None
+        }
+    }
+
+    /// "Then 6 for a reference that is neither a device code nor 0..63."
+    fn reference_holds(&self) -> bool {
+        let within = |reference| is_device(reference) || usize::from(reference) < MOST_BLOCKS;
+        self.reference().is_none_or(within)
+    }
+}
+
+impl Record {
+    /// What refusal 3 looks at in a record to be written: "an own number above 63 is 3", the name, and that no place
+    /// for bytes is filled that the kind does not use.
+    fn form_holds(&self) -> bool {
+        let (name, rest) = self.bytes.split_at(NAME);
+        let bytes_hold = match self.body {
+            Body::Palette => true,
+            Body::Separation { name_length, .. } => name_holds(name, name_length) && zero(rest),
+            _ => zero(&self.bytes),
+        };
+        usize::from(self.number) < MOST_BLOCKS && bytes_hold
+    }
+
+    /// "Writing one block: 10, 3, 4, 5, then 6": the refusal of a record, the length of the block aside.
+    pub(super) fn refusal(&self) -> Option<u32> {
+        if !self.form_holds() {
+            Some(3)
+        } else if let Some(number) = self.body.number_refusal() {
+            Some(number)
+        } else if !self.body.reference_holds() {
+            Some(6)
+        } else {
+            None
+        }
+    }
+}
