@@ -6,12 +6,9 @@ use crate::numbers::{read_two, write_two};
 /// "With byte i called b(i), 508-509 hold the sum of b(i) over i = 0..507 and 510-511 the sum of
 /// (508 - i) x b(i), each modulo 65535."
 pub fn sums(block: &[u8; BLOCK]) -> (u16, u16) {
-    let mut sum = 0;
-    let mut weighted = 0;
-    for (i, b) in (0..=507).zip(block.map(u32::from)) {
-        sum += b;
-        weighted += (508 - i) * b;
-    }
+    let b = |i: u32| u32::from(block[i as usize]);
+    let sum: u32 = (0..=507).map(b).sum();
+    let weighted: u32 = (0..=507).map(|i| (508 - i) * b(i)).sum();
     ((sum % 65535) as u16, (weighted % 65535) as u16)
 }
 
