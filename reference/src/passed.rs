@@ -1,7 +1,9 @@
 //! A record as C passes it: 20 numbers of 32 bits and 504 bytes. Number 0 is the block's own number,
 //! number 1 its kind, then come the numbers of its body in the order of the table, then zeros.
 
-use crate::block::{is_device, write_block, Body, Record, BLOCK, BODY, MOST_BLOCKS};
+use crate::block::{
+    write_block, Body, Record, BLOCK, BODY, DEVICE_CMYK, DEVICE_GRAY, DEVICE_RGB, MOST_BLOCKS,
+};
 
 /// How many numbers a record is passed as.
 pub const NUMBERS: usize = 20;
@@ -21,8 +23,8 @@ fn named(kind: i32) -> Option<usize> {
 
 /// Whether a number of any 32 bits is a device code or the number of a block.
 fn refers(reference: i32) -> bool {
-    let block = (0..MOST_BLOCKS as i32).contains(&reference);
-    block || u16::try_from(reference).is_ok_and(is_device)
+    let codes = [DEVICE_GRAY, DEVICE_RGB, DEVICE_CMYK].map(i32::from);
+    (0..MOST_BLOCKS as i32).contains(&reference) || codes.contains(&reference)
 }
 
 /// The first refusal of numbers that may be of any 32 bits, in the order 3, 4, 5, 6: an own number that
