@@ -67,8 +67,9 @@ enum sktelbaan_kinds {
  * The bytes are a Separation's name in the first 127, or a part of a palette in all 504; the others are 0. */
 enum { SKTELBAAN_RECORD_NUMBERS = 20, SKTELBAAN_RECORD_BYTES = 504 };
 
-/* Writes a record as a block, with its check; `block_len` is 512. Refuses with the first that applies of 10, 3, 4, 5, 6. Gives 0. A kind that is not 0 to 6, or
- * a number that has no room in its field of one or two bytes, is refused with 3. Numbers that the kind does not name are not looked at. */
+/* Writes a record as a block, with its check; `block_len` is 512. Refuses with the first that applies of 10, 3, 4, 5, 6. Gives 0. A number of
+ * any 32 bits has its refusal: 3 for an own number, a kind or the length of a name that no record has, and for a number that the kind does not name and that is
+ * not 0; 4 for hival, 5 for the exponent, 6 for base and alternate. What is written reads back as the same 20 numbers and 504 bytes. */
 uint64_t sktelbaan_write_block(const int32_t numbers[20], const uint8_t bytes[504], uint8_t *block, size_t block_len) SKTELBAAN_NEVER_NULL;
 
 /* Reads the record of a block by itself; `block_len` is 512. Refuses with the first that applies of 10, 2, 3, 4, 5, 6. Gives 0, and all 20 numbers and all 504

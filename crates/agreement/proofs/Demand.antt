@@ -1,4 +1,4 @@
--- Demand 3 as specs/Demand.antt states it, from the definitions: the recipe is that of the space at the number, which is well made on an accepted page.
+-- What specs/Demand.antt states, from the definitions: the recipe is that of the space at the number, which is well made on an accepted page.
 use mathlib.Core.Path.{_≡_, refl, sym, subst, _∙_}
 use mathlib.Core.Bool.{true, false}
 use mathlib.Core.List.{List, _++_}

@@ -1,4 +1,4 @@
--- What a caller has that was told of n words written: the page was accepted, so by demand 3's statement they are the recipe, and running them replies what
+-- What a caller has that was told of n words written: the page was accepted, so by RecipeServes they are the recipe, and running them replies what
 -- the page replies.
 use mathlib.Core.Path.{_≡_, refl, sym, ap, _∙_}
 use mathlib.Core.Bool.{Bool, true, false}

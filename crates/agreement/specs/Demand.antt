@@ -1,4 +1,4 @@
--- Document 01, "What demand 3 compares": a recipe in place of the page. Its sentences, in its order, as one statement.
+-- FORMAT.md, The recipe and the page: a recipe in place of the page. The sentences of the customer's paper, in its order, as one statement.
 use mathlib.Core.Path.{_≡_}
 use mathlib.Core.Bool.{true, false}
 use mathlib.Core.List.{List, _++_}
@@ -46,7 +46,7 @@ pub record MeetsEight (page : List ℕ) (number : ℕ) : Type 0 where
   pub recipe : (words : List ℤ) → writeReply page number words ≡ unwritten 8 0
   pub unaltered : (words : List ℤ) → writeLeft page number words ≡ words
 
--- demand 3
+-- the third of the three demands (FORMAT.md)
 pub record RecipeServes : Type 0 where
   -- "it takes every accepted page and every number asked for that does not meet refusal 8 there, device codes included. The page and that number fix the
   -- recipe, before any colour is given."

@@ -1,4 +1,4 @@
-// Demand 3: a recipe, once written, replies to every colour what the page replies.
+// FORMAT.md, The recipe and the page: a recipe, once written, replies to every colour what the page replies.
 mod compare;
 
 use cie::Answer;

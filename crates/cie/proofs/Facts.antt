@@ -1,4 +1,4 @@
--- Facts of colours that document 01 states, from the definitions alone.
+-- Facts of colours that FORMAT.md has among its worked values, from the definitions alone.
 use mathlib.Core.Path.{_≡_, refl, sym, ap, _∙_, subst}
 use mathlib.Core.Bool.{true, false, true≢false}
 use Prim.Native.Nat.{ℕ, zero, suc, _*_, _^_, _≤_, _<_}

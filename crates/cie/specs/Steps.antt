@@ -1,4 +1,4 @@
--- Document 01, "Colour steps", on f64: each operation rounds once, in the order written.
+-- FORMAT.md, Colour steps, on f64: each operation rounds once, in the order written.
 use Prim.Native.Nat.{ℕ, zero, suc, _/_}
 use mathlib.Core.Bool.{Bool, cond}
 use mathlib.Core.List.{List, [], _∷_}

@@ -1,4 +1,4 @@
--- The lines that document 01 marks to be proved, and the laws that they need.
+-- The worked lines that are marked to be proved, and the laws that they need.
 pub mod Vectors
 pub mod Tints
 pub mod Labs

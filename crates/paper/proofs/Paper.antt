@@ -1,4 +1,4 @@
--- The lines of document 01, "On either side of the line", that are marked P: one theorem.
+-- The worked lines that are marked P (FORMAT.md, Worked values): one theorem.
 use mathlib.Core.Path.{_≡_, refl}
 use Prim.Native.Nat.{ℕ, _≤_, zero-le}
 use lib.IntN.{pos, negsuc}

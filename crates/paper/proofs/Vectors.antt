@@ -1,4 +1,4 @@
--- The worked checks of document 01: free block 5 has check 5 and 2525; CalGray block 0, white 0.9505 1 1.089, black 0, gamma 1, has check 1066 and 3030.
+-- The worked checks: free block 5 has check 5 and 2525; CalGray block 0, white 0.9505 1 1.089, black 0, gamma 1, has check 1066 and 3030.
 use mathlib.Core.Path.{_≡_, refl}
 use Rattle.fixed.specs.Bytes.{twoBytes, fourBytes}
 use Rattle.fixed.specs.Loops.{total}

@@ -1,4 +1,5 @@
--- Document 01, "On either side of the line": "Marked P: one statement over all of them together, shown from the definitions." Its lines, in its order.
+-- FORMAT.md, Worked values: the lines marked P, in their order and in the words of the customer's paper: "one statement over all of them together, shown from the
+-- definitions".
 use mathlib.Core.Path.{_≡_}
 use mathlib.Core.Bool.{Bool, true, false}
 use mathlib.Core.List.{List, [], _∷_}

@@ -1,1 +1,1 @@
-// The lines that document 01 marks to be proved, as one statement.
+// The worked lines that are marked to be proved (FORMAT.md, Worked values), as one statement.

@@ -1,4 +1,5 @@
-// The C interface: each operation under a plain name, for C and Rust to link. Nothing is decided here. What a reply of 64 bits is stands in `sktelbaan_runner`.
+// The C interface: each operation under a plain name, for C and Rust to link. All that is decided here is which 20 numbers make a record; the rest is what the
+// crates below reply. What a reply of 64 bits is stands in `sktelbaan_runner`.
 ghost use mathlib.Core.Path.{_≡_};
 ghost use Rattle.colour.specs.Evaluating.{evaluated};
 ghost use Rattle.page.specs.Validation.{validated};

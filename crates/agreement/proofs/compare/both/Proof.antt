@@ -1,4 +1,4 @@
--- From the contracts of `evaluate`, `write` and `run` alone: the words that were written are the recipe, and demand 3 says what running them replies.
+-- From the contracts of `evaluate`, `write` and `run` alone: the words that were written are the recipe, and RecipeServes says what running them replies.
 use mathlib.Core.Path.{refl, sym, ap, _∙_}
 use mathlib.Core.List.{List}
 use lib.IntN.{ℤ}
