@@ -3,13 +3,15 @@
 //
 //     blocks 1
 //     0 CalGray 1 9
-mod lines;
-
 use libc::STDIN_FILENO;
+use libc::STDOUT_FILENO;
 
 fn main() {
     // more room than the longest page, so that a longer input is refused and not cut
-    let mut room = io::large_buffer();
-    let n = io::read_full(STDIN_FILENO, &mut room);
-    lines::list(&room[..n]);
+    let mut read = io::large_buffer();
+    let n = io::read_full(STDIN_FILENO, &mut read);
+    // room for the longest listing, which has a line for each of the most blocks
+    let mut text = [0u8; lines::LONGEST];
+    let k = lines::list(&read[..n], &mut text);
+    io::write_all(STDOUT_FILENO, &text[..k]);
 }
