@@ -1,4 +1,4 @@
--- The digits of n are the one way to write n in decimal: `digits-read`, read back they are n; `digits-written`, they are written as a number is; `digits-front`, a 0 is
+-- The digits of n are the one way to write n in decimal: `digits-read`, read back they are n; `digits-decimal`, they are written as a number is; `digits-front`, a 0 is
 -- in front of 0 alone; `digits-only`, there are no others. Before that `digits-small` and `digits-more`, by which the code makes them, and `digits-short`.
 use mathlib.Core.Path.{_≡_, refl, sym, ap, _∙_}
 use mathlib.Core.List.{List, [], _∷_, _++_, append-assoc, append-nil}
@@ -8,7 +8,7 @@ use native.Mathlib.Omega.{arith}
 use borrow.Author.Tests.{lt-ltb, le-ltb}
 use lib.ListN.{length, getD, length-append, List·getD-append}
 use lib.Seq.{getD-at}
-use Rattle.lines.specs.Digits.{digit, digitsIn, digits, readAfter, numberOf, Written}
+use Rattle.lines.specs.Digits.{digit, digitsIn, digits, readAfter, numberOf, Digit, AllDigits, Decimal}
 
 -- a number is below 10, or it is not
 by-ten : {C : Type 0} (n : ℕ) → (n < 10 → C) → (10 ≤ n → C) → C
@@ -69,78 +69,78 @@ digits-read = digits-ind (λ n ds. numberOf ds ≡ n) (λ n h. omega arith) (λ 
 
 -- ---- they are written as a number is
 
+-- a digit after others
+module _ (ds : List ℕ) (d : ℕ) where
+  all-more : AllDigits ds → Digit d → AllDigits (ds ++ (d ∷ []))
+  all-more all h k l = by (decLt k (length ds))
+    where
+      by : Dec (k < length ds) → Digit (getD (ds ++ (d ∷ [])) k 0)
+      by (yes q) = rw (List·getD-append ds (d ∷ []) 0 k q) (all k q)
+      by (no q) = let e : length ds ≡ k = omega (arith, length-append ds (d ∷ [])) in rw (getD-at ds d [] 0 k e) h
+
+  front-more : 0 < length ds → getD (ds ++ (d ∷ [])) 0 0 ≡ getD ds 0 0
+  front-more = List·getD-append ds (d ∷ []) 0 0
+
 record Shown (n : ℕ) (ds : List ℕ) : Type 0 where
-  written : Written ds
-  lead : getD ds 0 0 ≡ 48 → n ≡ 0
+  decimal : Decimal ds
+  front : getD ds 0 0 ≡ 48 → n ≡ 0
 
 one-shown : (n : ℕ) → n < 10 → Shown n (digit n ∷ [])
-one-shown n h = record { written = record { some = omega arith; each = each; front = λ _. refl }; lead = λ e. omega arith }
+one-shown n h = record { decimal = record { some = omega arith; all = all; front = λ _. refl }; front = λ e. omega arith }
   where
-    each : (k : ℕ) → k < 1 → (48 ≤ getD (digit n ∷ []) k 0) × (getD (digit n ∷ []) k 0 ≤ 57)
-    each zero _ = (omega arith, omega arith)
-    each (suc k) l = absurd (omega arith)
+    all : AllDigits (digit n ∷ [])
+    all zero _ = (omega arith, omega arith)
+    all (suc k) l = absurd (omega arith)
 
 more-shown : (n : ℕ) (ds : List ℕ) → 10 ≤ n → Shown (n / 10) ds → Shown n (ds ++ (digit (n % 10) ∷ []))
 more-shown n ds h s =
     record {
-      written = record { some = rw (length-append ds last) (omega arith); each = λ k l. each k l (decLt k (length ds)); front = λ e. absurd (front e) };
-      lead = λ e. absurd (front e);
+      decimal = record { some = omega (arith, length-append ds (digit (n % 10) ∷ [])); all = all-more ds (digit (n % 10)) (s .decimal .all) (omega arith, omega arith); front = λ e. absurd (no-zero e) };
+      front = λ e. absurd (no-zero e);
     }
   where
-    last : List ℕ
-    last = digit (n % 10) ∷ []
-
-    front : getD (ds ++ (digit (n % 10) ∷ [])) 0 0 ≡ 48 → ⊥
-    front e = omega (arith, s .lead (sym (List·getD-append ds (digit (n % 10) ∷ []) 0 0 (s .written .some)) ∙ e))
-
-    each : (k : ℕ) → k < length (ds ++ (digit (n % 10) ∷ [])) → Dec (k < length ds)
-        → (48 ≤ getD (ds ++ (digit (n % 10) ∷ [])) k 0) × (getD (ds ++ (digit (n % 10) ∷ [])) k 0 ≤ 57)
-    each k l (yes q) = rw (List·getD-append ds (digit (n % 10) ∷ []) 0 k q) (s .written .each k q)
-    each k l (no q) =
-        let e : length ds ≡ k = omega (arith, length-append ds (digit (n % 10) ∷ [])) in
-        rw (getD-at ds (digit (n % 10)) [] 0 k e) (omega arith, omega arith)
+    no-zero : getD (ds ++ (digit (n % 10) ∷ [])) 0 0 ≡ 48 → ⊥
+    no-zero e = omega (arith, s .front (sym (front-more ds (digit (n % 10)) (s .decimal .some)) ∙ e))
 
 shown : (n : ℕ) → Shown n (digits n)
 shown = digits-ind Shown one-shown more-shown
 
-pub digits-written : (n : ℕ) → Written (digits n)
-digits-written n = shown n .written
+pub digits-decimal : (n : ℕ) → Decimal (digits n)
+digits-decimal n = shown n .decimal
 
 pub digits-front : (n : ℕ) → getD (digits n) 0 0 ≡ 48 → n ≡ 0
-digits-front n = shown n .lead
+digits-front n = shown n .front
 
 -- ---- and there are no others
 
-abbrev Each : List ℕ → Type 0
-Each ds = (k : ℕ) → k < length ds → (48 ≤ getD ds k 0) × (getD ds k 0 ≤ 57)
-
 -- digits read after n stand after those of n
-read-after : (ds : List ℕ) (n : ℕ) → 0 < n → Each ds → digits (readAfter n ds) ≡ digits n ++ ds
-read-after [] n p each = sym (append-nil (digits n))
-read-after (d ∷ ds) n p each =
-    let low = each 0 (omega arith) in
+read-after : (ds : List ℕ) (n : ℕ) → 0 < n → AllDigits ds → digits (readAfter n ds) ≡ digits n ++ ds
+read-after [] n p all = sym (append-nil (digits n))
+read-after (d ∷ ds) n p all =
+    let h = all 0 (omega arith) in
     let q : (n * 10 + (d - 48)) / 10 ≡ n = omega arith in
     let r : digit ((n * 10 + (d - 48)) % 10) ≡ d = omega arith in
     let joined : digits (n * 10 + (d - 48)) ≡ digits n ++ (d ∷ []) = digits-more (n * 10 + (d - 48)) (omega arith) ∙ rw (q, r) in
-    read-after ds (n * 10 + (d - 48)) (omega arith) (λ k l. each (suc k) (suc-le-suc l))
+    read-after ds (n * 10 + (d - 48)) (omega arith) (λ k l. all (suc k) (suc-le-suc l))
     ∙ ap (λ (l : List ℕ). l ++ ds) joined
     ∙ append-assoc (digits n) (d ∷ []) ds
 
 -- a digit that stands alone
-alone : (d : ℕ) → (48 ≤ d) × (d ≤ 57) → digits (0 * 10 + (d - 48)) ≡ d ∷ []
+alone : (d : ℕ) → Digit d → digits (0 * 10 + (d - 48)) ≡ d ∷ []
 alone d h = let e : digit (0 * 10 + (d - 48)) ≡ d = omega arith in digits-small (0 * 10 + (d - 48)) (omega arith) ∙ rw e
 
-pub digits-only : (ds : List ℕ) → Written ds → digits (numberOf ds) ≡ ds
+pub digits-only : (ds : List ℕ) → Decimal ds → digits (numberOf ds) ≡ ds
 digits-only [] w = absurd (omega (arith, w .some))
-digits-only (d ∷ []) w = alone d (w .each 0 (omega arith))
+digits-only (d ∷ []) w = alone d (w .all 0 (omega arith))
 digits-only (d ∷ x ∷ ds) w =
-    let low = w .each 0 (omega arith) in
+    let h = w .all 0 (omega arith) in
     let above : d ≡ 48 → ⊥ = (λ e. omega (arith, w .front e)) in
-    read-after (x ∷ ds) (0 * 10 + (d - 48)) (omega arith) (λ k l. w .each (suc k) (suc-le-suc l))
-    ∙ ap (λ (l : List ℕ). l ++ (x ∷ ds)) (alone d low)
+    read-after (x ∷ ds) (0 * 10 + (d - 48)) (omega arith) (λ k l. w .all (suc k) (suc-le-suc l))
+    ∙ ap (λ (l : List ℕ). l ++ (x ∷ ds)) (alone d h)
 
 -- ---- how many there are
 
+-- 10 to the k
 abbrev tens : ℕ → ℕ
 tens zero = 1
 tens (suc k) = 10 * tens k

@@ -1,10 +1,10 @@
 -- Laws of `Put`: two texts put one after the other are their text put at once, and a text put from the first byte on is `over` what was there.
 use mathlib.Core.Path.{_≡_, refl, sym, ap, _∙_}
 use mathlib.Core.List.{List, [], _∷_, _++_}
-use Prim.Native.Nat.{ℕ, zero, suc, _+_, _/_, _%_, _≤_, _<_}
+use Prim.Native.Nat.{ℕ, suc, _+_, _/_, _%_, _≤_, _<_}
 use native.Mathlib.Numerals.{add-one}
 use native.Mathlib.Omega.{arith}
-use lib.ListN.{length, getD, take, drop, length-append}
+use lib.ListN.{length, getD, take, length-append}
 use lib.Seq.{sets, take-nil, take-all, take-suc, length-take-le}
 use Rattle.fixed.proofs.Stores.{then as stores}
 use Rattle.lines.specs.Texts.{over}
@@ -12,6 +12,7 @@ use Rattle.lines.specs.Digits.{digit, digits}
 use Rattle.lines.specs.Puts.{Put}
 use Rattle.lines.proofs.Digits.{digits-small, digits-more, digits-short}
 
+-- one text after another
 pub then : {m n at r s : ℕ} {d e f a b : List ℕ} → Put m d at a e r → Put n e r b f s → Put (m + n) d at (a ++ b) f s
 then {at = at} {r = r} {d = d} {a = a} {b = b} p q =
     record {

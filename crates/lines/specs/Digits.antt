@@ -29,8 +29,15 @@ readAfter n (d ∷ ds) = readAfter (n * 10 + (d - 48)) ds
 abbrev pub numberOf : List ℕ → ℕ
 numberOf ds = readAfter 0 ds
 
+-- a byte that is a digit, and a list of them
+abbrev pub Digit : ℕ → Type 0
+Digit d = (48 ≤ d) × (d ≤ 57)
+
+abbrev pub AllDigits : List ℕ → Type 0
+AllDigits ds = (k : ℕ) → k < length ds → Digit (getD ds k 0)
+
 -- a number as it is written: one digit or more, nothing but digits, and a 0 in front only where it stands alone
-pub record Written (ds : List ℕ) : Type 0 where
+pub record Decimal (ds : List ℕ) : Type 0 where
   pub some : 0 < length ds
-  pub each : (k : ℕ) → k < length ds → (48 ≤ getD ds k 0) × (getD ds k 0 ≤ 57)
+  pub all : AllDigits ds
   pub front : getD ds 0 0 ≡ 48 → length ds ≡ 1

@@ -9,7 +9,6 @@ use Rattle.lines.specs.Puts.{Put}
 use Rattle.lines.proofs.Putting.{nothing}
 use Rattle.lines.proofs.Lines.{next-line}
 use borrow.Author.Needs.{needs}
-use borrow.Author.Needs.{needs}
 use Rattle.lines.proofs.listing.put_lines.Statement.{statement}
 use Rattle.lines.proofs.listing.put_lines.Tie as tie
 

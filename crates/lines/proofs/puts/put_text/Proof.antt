@@ -1,10 +1,9 @@
 -- `put_text`: the loop's invariant is that the first i bytes are put.
 use mathlib.Core.Path.{_≡_, refl, ap, _∙_}
-use Prim.Native.Nat.{_≤_, _+_, _-_}
+use Prim.Native.Nat.{_≤_, _-_}
 use native.Mathlib.Omega.{arith}
 use lib.ListN.{length, take}
 use lib.Seq.{sets, length-sets}
-use Rattle.lines.specs.Puts.{Put}
 use Rattle.lines.proofs.Putting.{one-more, all-put}
 use borrow.Author.Needs.{needs}
 use Rattle.lines.proofs.puts.put_text.Statement.{statement}
