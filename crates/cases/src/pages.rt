@@ -2,18 +2,18 @@
 use colour::evaluate;
 use fixed::number;
 use fixed::of_signed;
+use lines::LONGEST;
+use lines::list;
 use page::Verdict;
 use page::validate;
 use recipe::Written;
 use recipe::write;
 use runner::run;
-use text::is_listed;
 use text::say;
 use text::say_answer;
 use text::say_next;
 use text::say_refusal;
 use text::say_size;
-use text::say_space;
 
 fn validate_case(page: &[u8]) {
     let v = validate(page);
@@ -125,29 +125,25 @@ fn run_case(v: [i32; 24], bytes: &[u8]) {
     say_answer(run(first(&s, n as u32), first(&c, of_signed(v[1]))));
 }
 
-fn space_case(page: &[u8], i: u32) {
-    if is_listed(page, i) {
-        say(b"; ");
-        say_space(page, i);
+fn say_joined(x: u8, last: bool) {
+    if x != b'\n' {
+        let one = [x];
+        say(&one);
+        return;
     }
-}
-
-fn accepted_case(page: &[u8]) {
-    say(b"blocks ");
-    say_size((page.len() / 512 % 65536) as u32);
-    let mut i: u32 = 0;
-    while i < fixed::BLOCKS {
-        space_case(page, i);
-        i += 1;
+    if !last {
+        say(b"; ");
     }
 }
 
 // The listing, its lines joined by semicolons.
 fn list_case(page: &[u8]) {
-    let v = validate(page);
-    match v {
-        Verdict::Accepted => accepted_case(page),
-        Verdict::Refused { number, block } => say_refusal(number, block),
+    let mut text = [0u8; LONGEST];
+    let n = list(page, &mut text);
+    let mut i: usize = 0;
+    while i < n {
+        say_joined(text[i], i + 1 == n);
+        i += 1;
     }
 }
 

@@ -1,7 +1,6 @@
-// Text for the programs: lines read off standard input, and numbers, floats, answers and spaces written to standard output.
+// Text for the programs: lines read off standard input, and numbers, floats, answers and refusals written to standard output.
 mod input;
 mod output;
-mod spaces;
 
 pub use input::Numbers;
 pub use input::bytes_at;
@@ -15,8 +14,6 @@ pub use output::say_dotted;
 pub use output::say_float;
 pub use output::say_next;
 pub use output::say_number;
+pub use output::say_refusal;
 pub use output::say_size;
 pub use output::say_xyz;
-pub use spaces::is_listed;
-pub use spaces::say_refusal;
-pub use spaces::say_space;

@@ -1,4 +1,4 @@
-// Numbers, floats and answers, written to standard output.
+// Numbers, floats, answers and refusals, written to standard output.
 use cie::Answer;
 use cie::Xyz;
 use fixed::of_signed;
@@ -80,6 +80,14 @@ pub fn say_xyz(p: Xyz) {
     say_float(p.z);
 }
 
+// Writes a refusal.
+pub fn say_refusal(number: u32, block: u32) {
+    say(b"refused ");
+    say_size(number);
+    say(b" block ");
+    say_size(block);
+}
+
 // Writes an answer.
 pub fn say_answer(a: Answer) {
     match a {
@@ -109,10 +117,7 @@ pub fn say_answer(a: Answer) {
             say_xyz(p);
         }
         Answer::Refused { number, block } => {
-            say(b"refused ");
-            io::print_decimal(STDOUT_FILENO, number as u64);
-            say(b" block ");
-            io::print_decimal(STDOUT_FILENO, block as u64);
+            say_refusal(number, block);
         }
     }
 }
