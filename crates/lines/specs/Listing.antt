@@ -1,5 +1,5 @@
--- Document 01: "The listing program reads standard input and prints the block count, then number, family, components and recipe words of each space." "A refused
--- page prints one line, as `refused 2 block 0`." A space between two columns, and a newline after every line.
+-- FORMAT.md, The listing: the count of blocks, then number, family, component count and recipe words of each space; a refused page has one line, as
+-- `refused 2 block 0`. A space between two columns, and a newline after every line.
 use Prim.Native.Nat.{ℕ, zero, suc, _+_, _*_, _/_}
 use mathlib.Core.Bool.{Bool, _&&_, cond}
 use mathlib.Core.List.{List, [], _++_}
