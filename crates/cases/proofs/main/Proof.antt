@@ -1,3 +1,4 @@
+-- Lines are read until there is none, as often as the program says: the rounds left fall.
 use mathlib.Core.Path.{sym}
 use lib.Seq.{length-take-le}
 use mathlib.Core.Path.{_≡_}

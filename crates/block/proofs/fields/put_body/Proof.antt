@@ -55,44 +55,72 @@ same-length : tie.Need-same-length
 same-length c = search needs
 
 returns : tie.Need-returns
-returns c = c .before .before .put-zeros .ensures ∙ (λ i. puts (now (c .before .before .before .before .before .before .before .args .out)) 4 (body (sym (c .before .before .before .before .enum-told .given .1) i) (now (c .before .before .before .before .before .before .before .args .s)) ++ rest (sym (c .before .before .before .before .enum-told .given .1) i)))
+returns c =
+    let at-put-zeros = c .before .before in
+    let at-enum-told = at-put-zeros .before .before in
+    let start = at-enum-told .before .before .before in
+    at-put-zeros .put-zeros .ensures ∙ (λ i. puts (now (start .args .out)) 4 (body (sym (at-enum-told .enum-told .given .1) i) (now (start .args .s)) ++ rest (sym (at-enum-told .enum-told .given .1) i)))
 
 same-length-2 : tie.Need-same-length-2
 same-length-2 c = search needs
 
 returns-2 : tie.Need-returns-2
-returns-2 c = c .before .before .put-gray .ensures ∙ (λ i. puts (now (c .before .before .before .before .before .before .before .before .args .out)) 4 (body (sym (c .before .before .before .before .before .y .given .1) i) (now (c .before .before .before .before .before .before .before .before .args .s)) ++ rest (sym (c .before .before .before .before .before .y .given .1) i)))
+returns-2 c =
+    let at-put-gray = c .before .before in
+    let at-y = at-put-gray .before .before .before in
+    let start = at-y .before .before .before in
+    at-put-gray .put-gray .ensures ∙ (λ i. puts (now (start .args .out)) 4 (body (sym (at-y .y .given .1) i) (now (start .args .s)) ++ rest (sym (at-y .y .given .1) i)))
 
 same-length-3 : tie.Need-same-length-3
 same-length-3 c = search needs
 
 returns-3 : tie.Need-returns-3
-returns-3 c = c .before .before .put-rgb .ensures ∙ (λ i. puts (now (c .before .before .before .before .before .before .before .before .args .out)) 4 (body (sym (c .before .before .before .before .before .y2 .given .1) i) (now (c .before .before .before .before .before .before .before .before .args .s)) ++ rest (sym (c .before .before .before .before .before .y2 .given .1) i)))
+returns-3 c =
+    let at-put-rgb = c .before .before in
+    let at-y2 = at-put-rgb .before .before .before in
+    let start = at-y2 .before .before .before in
+    at-put-rgb .put-rgb .ensures ∙ (λ i. puts (now (start .args .out)) 4 (body (sym (at-y2 .y2 .given .1) i) (now (start .args .s)) ++ rest (sym (at-y2 .y2 .given .1) i)))
 
 same-length-4 : tie.Need-same-length-4
 same-length-4 c = search needs
 
 returns-4 : tie.Need-returns-4
-returns-4 c = c .before .before .put-lab .ensures ∙ (λ i. puts (now (c .before .before .before .before .before .before .before .before .args .out)) 4 (body (sym (c .before .before .before .before .before .y3 .given .1) i) (now (c .before .before .before .before .before .before .before .before .args .s)) ++ rest (sym (c .before .before .before .before .before .y3 .given .1) i)))
+returns-4 c =
+    let at-put-lab = c .before .before in
+    let at-y3 = at-put-lab .before .before .before in
+    let start = at-y3 .before .before .before in
+    at-put-lab .put-lab .ensures ∙ (λ i. puts (now (start .args .out)) 4 (body (sym (at-y3 .y3 .given .1) i) (now (start .args .s)) ++ rest (sym (at-y3 .y3 .given .1) i)))
 
 same-length-5 : tie.Need-same-length-5
 same-length-5 c = search needs
 
 returns-5 : tie.Need-returns-5
-returns-5 c = c .before .before .put-indexed .ensures ∙ (λ i. puts (now (c .before .before .before .before .before .before .before .before .args .out)) 4 (body (sym (c .before .before .before .before .before .y4 .given .1) i) (now (c .before .before .before .before .before .before .before .before .args .s)) ++ rest (sym (c .before .before .before .before .before .y4 .given .1) i)))
+returns-5 c =
+    let at-put-indexed = c .before .before in
+    let at-y4 = at-put-indexed .before .before .before in
+    let start = at-y4 .before .before .before in
+    at-put-indexed .put-indexed .ensures ∙ (λ i. puts (now (start .args .out)) 4 (body (sym (at-y4 .y4 .given .1) i) (now (start .args .s)) ++ rest (sym (at-y4 .y4 .given .1) i)))
 
 same-length-6 : tie.Need-same-length-6
 same-length-6 c = search needs
 
 returns-6 : tie.Need-returns-6
-returns-6 c = c .before .before .put-separation .ensures ∙ (λ i. puts (now (c .before .before .before .before .before .before .before .before .args .out)) 4 (body (sym (c .before .before .before .before .before .y5 .given .1) i) (now (c .before .before .before .before .before .before .before .before .args .s)) ++ rest (sym (c .before .before .before .before .before .y5 .given .1) i)))
+returns-6 c =
+    let at-put-separation = c .before .before in
+    let at-y5 = at-put-separation .before .before .before in
+    let start = at-y5 .before .before .before in
+    at-put-separation .put-separation .ensures ∙ (λ i. puts (now (start .args .out)) 4 (body (sym (at-y5 .y5 .given .1) i) (now (start .args .s)) ++ rest (sym (at-y5 .y5 .given .1) i)))
 
 same-length-7 : tie.Need-same-length-7
 same-length-7 c = search needs
 
 returns-7 : tie.Need-returns-7
 unfolding puts
-returns-7 c = c .before .before .put-run .ensures ∙ (λ i. puts (now (c .before .before .before .before .before .before .before .args .out)) 4 (body (sym (c .before .before .before .before .enum-told2 .given .1) i) (now (c .before .before .before .before .before .before .before .args .s)) ++ rest (sym (c .before .before .before .before .enum-told2 .given .1) i)))
+returns-7 c =
+    let at-put-run = c .before .before in
+    let at-enum-told2 = at-put-run .before .before in
+    let start = at-enum-told2 .before .before .before in
+    at-put-run .put-run .ensures ∙ (λ i. puts (now (start .args .out)) 4 (body (sym (at-enum-told2 .enum-told2 .given .1) i) (now (start .args .s)) ++ rest (sym (at-enum-told2 .enum-told2 .given .1) i)))
 
 pub put-body-spec : {M : Type 1} → statement M
 put-body-spec =

@@ -34,13 +34,20 @@ same-length : tie.Need-same-length
 same-length c = search needs
 
 returns : tie.Need-returns
-returns c = let out = now (c .before .before .before .before .before .before .before .before .before .before .before .before .before .before .before .before .before .before .before .before .before .args .out) in
-    let at = c .before .before .before .before .before .before .before .before .before .before .before .before .before .before .before .before .before .before .before .before .before .args .at in
-    let t = c .before .before .before .before .before .before .before .before .before .before .before .before .before .before .before .before .before .before .struct-told .given in
-    next out at (num _ ∷ []) _ (at + 4) (omega arith) (sent _ _ _ (t .0 .1) (c .before .before .before .before .before .before .before .before .before .before .before .before .before .before .before .before .before .put-num .ensures))
-    (next _ (at + 4) (num _ ∷ []) _ (at + 8) (omega arith) (sent _ _ _ (t .1 .0 .1) (c .before .before .before .before .before .before .before .before .before .before .before .before .put-num2 .ensures))
-    (next _ (at + 8) (num _ ∷ []) _ (at + 12) (omega arith) (sent _ _ _ (t .1 .1 .0 .1) (c .before .before .before .before .before .before .before .put-num3 .ensures))
-    (sent _ _ _ (t .1 .1 .1 .0 .1) (c .before .before .put-num4 .ensures))))
+returns c =
+    let at-put-num4 = c .before .before in
+    let at-put-num3 = at-put-num4 .before .before .before .before .before in
+    let at-put-num2 = at-put-num3 .before .before .before .before .before in
+    let at-put-num = at-put-num2 .before .before .before .before .before in
+    let at-struct-told = at-put-num .before in
+    let start = at-struct-told .before .before .before in
+    let out = now (start .args .out) in
+    let at = start .args .at in
+    let t = at-struct-told .struct-told .given in
+    next out at (num _ ∷ []) _ (at + 4) (omega arith) (sent _ _ _ (t .0 .1) (at-put-num .put-num .ensures))
+    (next _ (at + 4) (num _ ∷ []) _ (at + 8) (omega arith) (sent _ _ _ (t .1 .0 .1) (at-put-num2 .put-num2 .ensures))
+    (next _ (at + 8) (num _ ∷ []) _ (at + 12) (omega arith) (sent _ _ _ (t .1 .1 .0 .1) (at-put-num3 .put-num3 .ensures))
+    (sent _ _ _ (t .1 .1 .1 .0 .1) (at-put-num4 .put-num4 .ensures))))
 
 pub put-four-spec : {M : Type 1} → statement M
 put-four-spec =

@@ -25,10 +25,17 @@ same-length : tie.Need-same-length
 same-length c = search needs
 
 returns : tie.Need-returns
-returns c = next (now (c .before .before .before .before .before .before .before .before .before .before .before .before .before .before .before .before .before .before .before .before .args .out)) 4 (triple _ []) _ 16 refl (c .before .before .before .before .before .before .before .before .before .before .before .before .before .before .before .put-triple .ensures)
-    (next _ 16 (triple _ []) _ 28 refl (c .before .before .before .before .before .before .before .before .before .before .before .put-triple2 .ensures)
-    (next _ 28 (num _ ∷ []) _ 32 refl (sent _ _ _ (c .before .before .before .before .before .before .before .struct-told .given .1 .1 .0 .1) (c .before .before .before .before .before .before .put-num .ensures))
-    (c .before .before .put-zeros .ensures)))
+returns c =
+    let at-put-zeros = c .before .before in
+    let at-put-num = at-put-zeros .before .before .before .before in
+    let at-struct-told = at-put-num .before in
+    let at-put-triple2 = at-struct-told .before .before .before .before in
+    let at-put-triple = at-put-triple2 .before .before .before .before in
+    let start = at-put-triple .before .before .before .before .before in
+    next (now (start .args .out)) 4 (triple _ []) _ 16 refl (at-put-triple .put-triple .ensures)
+    (next _ 16 (triple _ []) _ 28 refl (at-put-triple2 .put-triple2 .ensures)
+    (next _ 28 (num _ ∷ []) _ 32 refl (sent _ _ _ (at-struct-told .struct-told .given .1 .1 .0 .1) (at-put-num .put-num .ensures))
+    (at-put-zeros .put-zeros .ensures)))
 
 pub put-gray-spec : {M : Type 1} → statement M
 put-gray-spec =

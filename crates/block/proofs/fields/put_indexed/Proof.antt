@@ -21,9 +21,14 @@ same-length : tie.Need-same-length
 same-length c = search needs
 
 returns : tie.Need-returns
-returns c = next (now (c .before .before .before .before .before .before .before .before .before .before .before .before .before .args .out)) 4 (two _ ∷ []) _ 6 refl (c .before .before .before .before .before .before .before .before .before .before .put-two .ensures)
-    (next _ 6 (two _ ∷ []) _ 8 refl (c .before .before .before .before .before .before .put-two2 .ensures)
-    (c .before .before .put-zeros .ensures))
+returns c =
+    let at-put-zeros = c .before .before in
+    let at-put-two2 = at-put-zeros .before .before .before .before in
+    let at-put-two = at-put-two2 .before .before .before .before in
+    let start = at-put-two .before .before .before in
+    next (now (start .args .out)) 4 (two _ ∷ []) _ 6 refl (at-put-two .put-two .ensures)
+    (next _ 6 (two _ ∷ []) _ 8 refl (at-put-two2 .put-two2 .ensures)
+    (at-put-zeros .put-zeros .ensures))
 
 pub put-indexed-spec : {M : Type 1} → statement M
 put-indexed-spec =

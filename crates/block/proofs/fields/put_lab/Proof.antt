@@ -24,10 +24,17 @@ same-length : tie.Need-same-length
 same-length c = search needs
 
 returns : tie.Need-returns
-returns c = next (now (c .before .before .before .before .before .before .before .before .before .before .before .before .before .before .before .before .before .before .before .before .args .out)) 4 (triple _ []) _ 16 refl (c .before .before .before .before .before .before .before .before .before .before .before .before .before .before .put-triple .ensures)
-    (next _ 16 (triple _ []) _ 28 refl (c .before .before .before .before .before .before .before .before .before .before .put-triple2 .ensures)
-    (next _ 28 (ranges _ []) _ 44 refl (c .before .before .before .before .before .before .put-ranges .ensures)
-    (c .before .before .put-zeros .ensures)))
+returns c =
+    let at-put-zeros = c .before .before in
+    let at-put-ranges = at-put-zeros .before .before .before .before in
+    let at-put-triple2 = at-put-ranges .before .before .before .before in
+    let at-put-triple = at-put-triple2 .before .before .before .before in
+    let earlier = at-put-triple .before .before .before .before .before in
+    let start = earlier .before in
+    next (now (start .args .out)) 4 (triple _ []) _ 16 refl (at-put-triple .put-triple .ensures)
+    (next _ 16 (triple _ []) _ 28 refl (at-put-triple2 .put-triple2 .ensures)
+    (next _ 28 (ranges _ []) _ 44 refl (at-put-ranges .put-ranges .ensures)
+    (at-put-zeros .put-zeros .ensures)))
 
 pub put-lab-spec : {M : Type 1} → statement M
 put-lab-spec =

@@ -13,9 +13,12 @@ same-length c = search needs
 
 returns : tie.Need-returns
 returns c =
-    let q = c .before .before .before .before .before .before .args .q in
-    let t = c .before .before .before .struct-told .given in
-    c .before .before .put-four .ensures
+    let at-put-four = c .before .before in
+    let at-struct-told = at-put-four .before in
+    let start = at-struct-told .before .before .before in
+    let q = start .args .q in
+    let t = at-struct-told .struct-told .given in
+    at-put-four .put-four .ensures
     ∙ simp (came (q .amin) (t .0 .1), came (q .amax) (t .1 .0 .1), came (q .bmin) (t .1 .1 .0 .1), came (q .bmax) (t .1 .1 .1 .0 .1))
 
 pub put-ranges-spec : {M : Type 1} → statement M

@@ -33,13 +33,23 @@ same-length : tie.Need-same-length
 same-length c = search needs
 
 returns : tie.Need-returns
-returns c = next (now (c .before .before .before .before .before .before .before .before .before .before .before .before .before .before .before .before .before .before .before .before .before .before .before .before .before .before .before .before .before .before .before .before .before .before .before .args .out)) 4 (triple _ []) _ 16 refl (c .before .before .before .before .before .before .before .before .before .before .before .before .before .before .before .before .before .before .before .before .before .before .before .before .before .before .put-triple .ensures)
-    (next _ 16 (triple _ []) _ 28 refl (c .before .before .before .before .before .before .before .before .before .before .before .before .before .before .before .before .before .before .before .before .before .before .put-triple2 .ensures)
-    (next _ 28 (triple _ []) _ 40 refl (c .before .before .before .before .before .before .before .before .before .before .before .before .before .before .before .before .before .before .put-triple3 .ensures)
-    (next _ 40 (triple _ []) _ 52 refl (c .before .before .before .before .before .before .before .before .before .before .before .before .before .before .put-triple4 .ensures)
-    (next _ 52 (triple _ []) _ 64 refl (c .before .before .before .before .before .before .before .before .before .before .put-triple5 .ensures)
-    (next _ 64 (triple _ []) _ 76 refl (c .before .before .before .before .before .before .put-triple6 .ensures)
-    (c .before .before .put-zeros .ensures))))))
+returns c =
+    let at-put-zeros = c .before .before in
+    let at-put-triple6 = at-put-zeros .before .before .before .before in
+    let at-put-triple5 = at-put-triple6 .before .before .before .before in
+    let at-put-triple4 = at-put-triple5 .before .before .before .before in
+    let at-put-triple3 = at-put-triple4 .before .before .before .before in
+    let at-put-triple2 = at-put-triple3 .before .before .before .before in
+    let at-put-triple = at-put-triple2 .before .before .before .before in
+    let earlier = at-put-triple .before .before .before .before .before in
+    let start = earlier .before .before .before .before in
+    next (now (start .args .out)) 4 (triple _ []) _ 16 refl (at-put-triple .put-triple .ensures)
+    (next _ 16 (triple _ []) _ 28 refl (at-put-triple2 .put-triple2 .ensures)
+    (next _ 28 (triple _ []) _ 40 refl (at-put-triple3 .put-triple3 .ensures)
+    (next _ 40 (triple _ []) _ 52 refl (at-put-triple4 .put-triple4 .ensures)
+    (next _ 52 (triple _ []) _ 64 refl (at-put-triple5 .put-triple5 .ensures)
+    (next _ 64 (triple _ []) _ 76 refl (at-put-triple6 .put-triple6 .ensures)
+    (at-put-zeros .put-zeros .ensures))))))
 
 pub put-rgb-spec : {M : Type 1} → statement M
 put-rgb-spec =

@@ -37,13 +37,23 @@ same-length : tie.Need-same-length
 same-length c = search needs
 
 returns : tie.Need-returns
-returns c = next (now (c .before .before .before .before .before .before .before .before .before .before .before .before .before .before .before .before .before .before .before .before .before .before .before .before .before .before .before .before .before .before .before .before .args .out)) 4 (two _ ∷ []) _ 6 refl (c .before .before .before .before .before .before .before .before .before .before .before .before .before .before .before .before .before .before .before .before .before .before .before .before .before .before .put-two .ensures)
-    (next _ 6 (one _ ∷ []) _ 7 refl (c .before .before .before .before .before .before .before .before .before .before .before .before .before .before .before .before .before .before .before .before .before .before .put-one .ensures)
-    (next _ 7 (one _ ∷ []) _ 8 refl (c .before .before .before .before .before .before .before .before .before .before .before .before .before .before .before .before .before .before .put-one2 .ensures)
-    (next _ 8 (run 128 _ ∷ []) _ 136 refl (c .before .before .before .before .before .before .before .before .before .before .before .before .before .before .put-run .ensures)
-    (next _ 136 (four _ []) _ 152 refl (c .before .before .before .before .before .before .before .before .before .before .put-four .ensures)
-    (next _ 152 (four _ []) _ 168 refl (c .before .before .before .before .before .before .put-four2 .ensures)
-    (c .before .before .put-zeros .ensures))))))
+returns c =
+    let at-put-zeros = c .before .before in
+    let at-put-four2 = at-put-zeros .before .before .before .before in
+    let at-put-four = at-put-four2 .before .before .before .before in
+    let at-put-run = at-put-four .before .before .before .before in
+    let at-put-one2 = at-put-run .before .before .before .before in
+    let at-put-one = at-put-one2 .before .before .before .before in
+    let at-put-two = at-put-one .before .before .before .before in
+    let earlier = at-put-two .before .before .before .before .before in
+    let start = earlier .before in
+    next (now (start .args .out)) 4 (two _ ∷ []) _ 6 refl (at-put-two .put-two .ensures)
+    (next _ 6 (one _ ∷ []) _ 7 refl (at-put-one .put-one .ensures)
+    (next _ 7 (one _ ∷ []) _ 8 refl (at-put-one2 .put-one2 .ensures)
+    (next _ 8 (run 128 _ ∷ []) _ 136 refl (at-put-run .put-run .ensures)
+    (next _ 136 (four _ []) _ 152 refl (at-put-four .put-four .ensures)
+    (next _ 152 (four _ []) _ 168 refl (at-put-four2 .put-four2 .ensures)
+    (at-put-zeros .put-zeros .ensures))))))
 
 pub put-separation-spec : {M : Type 1} → statement M
 put-separation-spec =

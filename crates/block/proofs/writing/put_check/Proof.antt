@@ -21,9 +21,14 @@ same-length : tie.Need-same-length
 same-length c = search needs
 
 returns : tie.Need-returns
-returns c = next (now (c .before .before .before .before .before .before .before .before .before .before .before .args .out)) 508 (two _ ∷ []) _ 510 refl (c .before .before .before .before .before .before .put-two .ensures)
-    (c .before .before .put-two2 .ensures)
-    ∙ (λ i. puts (now (c .before .before .before .before .before .before .before .before .before .before .before .args .out)) 508 (two (c .before .before .before .before .before .before .before .before .sum-up .ensures .0 i) ∷ two (c .before .before .before .before .before .before .before .before .sum-up .ensures .1 i) ∷ []))
+returns c =
+    let at-put-two2 = c .before .before in
+    let at-put-two = at-put-two2 .before .before .before .before in
+    let at-sum-up = at-put-two .before .before in
+    let start = at-sum-up .before .before .before in
+    next (now (start .args .out)) 508 (two _ ∷ []) _ 510 refl (at-put-two .put-two .ensures)
+    (at-put-two2 .put-two2 .ensures)
+    ∙ (λ i. puts (now (start .args .out)) 508 (two (at-sum-up .sum-up .ensures .0 i) ∷ two (at-sum-up .sum-up .ensures .1 i) ∷ []))
 
 pub put-check-spec : {M : Type 1} → statement M
 put-check-spec =

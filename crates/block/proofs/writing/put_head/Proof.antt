@@ -21,9 +21,14 @@ same-length : tie.Need-same-length
 same-length c = search needs
 
 returns : tie.Need-returns
-returns c = next (now (c .before .before .before .before .before .before .before .before .before .before .before .before .before .args .out)) 0 (one _ ∷ []) _ 1 refl (c .before .before .before .before .before .before .before .before .before .before .put-one .ensures)
-    (next _ 1 (one _ ∷ []) _ 2 refl (c .before .before .before .before .before .before .put-one2 .ensures)
-    (c .before .before .put-two .ensures))
+returns c =
+    let at-put-two = c .before .before in
+    let at-put-one2 = at-put-two .before .before .before .before in
+    let at-put-one = at-put-one2 .before .before .before .before in
+    let start = at-put-one .before .before .before in
+    next (now (start .args .out)) 0 (one _ ∷ []) _ 1 refl (at-put-one .put-one .ensures)
+    (next _ 1 (one _ ∷ []) _ 2 refl (at-put-one2 .put-one2 .ensures)
+    (at-put-two .put-two .ensures))
 
 pub put-head-spec : {M : Type 1} → statement M
 put-head-spec =

@@ -1,3 +1,4 @@
+-- A scan of the bytes: safe and ending, with no promise of what it finds.
 use Prim.Native.Nat.{_-_}
 use lib.ListN.{length}
 use borrow.Author.Needs.{needs}

@@ -1,3 +1,4 @@
+-- The bytes of the text go into the room, no more of them than it has.
 use Prim.Native.Nat.{_≤_, _-_}
 use borrow.Author.Needs.{needs}
 use Rattle.cases.proofs.blocks.room_of.Statement.{statement}

@@ -1,3 +1,4 @@
+-- The name is at most the room, so its part may be lent.
 use mathlib.Core.Path.{sym}
 use lib.Seq.{length-take-le}
 use borrow.Author.Needs.{needs}
@@ -41,7 +42,13 @@ say-requires-2 : tie.Need-say-requires-2
 say-requires-2 c κs = search needs
 
 slice-aggregate-say-dotted : tie.Need-slice-aggregate-say-dotted
-slice-aggregate-say-dotted c = sym (length-take-le 128 (c .before .before .before .before .before .before .before .before .before .before .before .before .before .before .before .before .before .args .bytes .now) (c .before .if1 .taken))
+slice-aggregate-say-dotted c =
+    let at-if1 = c .before in
+    let earlier = at-if1 .before .before .before .before .before in
+    let earlier2 = earlier .before .before .before .before .before in
+    let earlier3 = earlier2 .before .before .before .before .before in
+    let start = earlier3 .before in
+    sym (length-take-le 128 (start .args .bytes .now) (at-if1 .if1 .taken))
 
 say-dotted-requires : tie.Need-say-dotted-requires
 say-dotted-requires c κs = search needs

@@ -1,3 +1,4 @@
+-- The components are a part of the numbers read.
 use Prim.Native.Nat.{_≤_, _-_}
 use borrow.Author.Needs.{needs}
 use Rattle.cases.proofs.pages.components_from.Statement.{statement}

@@ -1,3 +1,4 @@
+-- The first number of a list that may be empty.
 use mathlib.Core.Path.{sym}
 use lib.Seq.{length-take-le}
 use borrow.Author.Needs.{needs}

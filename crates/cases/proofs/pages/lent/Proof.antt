@@ -1,3 +1,4 @@
+-- A loop that fills the words lent with numbers that differ.
 use mathlib.Core.Path.{sym}
 use lib.Seq.{length-take-le}
 use borrow.Author.Needs.{needs}

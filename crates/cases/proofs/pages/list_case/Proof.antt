@@ -1,3 +1,4 @@
+-- A loop over the bytes of a listing, which is no longer than its room.
 use Prim.Native.Nat.{_-_}
 use borrow.Author.Needs.{needs}
 use Rattle.cases.proofs.pages.list_case.Statement.{statement}

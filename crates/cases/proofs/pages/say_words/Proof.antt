@@ -1,3 +1,4 @@
+-- A loop over the words that were written.
 use Prim.Native.Nat.{_-_}
 use lib.ListN.{length}
 use borrow.Author.Needs.{needs}

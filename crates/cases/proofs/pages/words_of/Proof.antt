@@ -1,3 +1,4 @@
+-- The words are a part of the numbers read.
 use mathlib.Core.Path.{_≡_}
 use Prim.Native.Nat.{_≤_, _-_}
 use lib.ListN.{length}

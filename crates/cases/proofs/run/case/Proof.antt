@@ -1,3 +1,4 @@
+-- What each kind of case is lent is a part of the line that was read.
 use mathlib.Core.Path.{sym}
 use lib.Seq.{length-take-le}
 use borrow.Author.Needs.{needs}
@@ -26,7 +27,10 @@ slice-reshare-prefix-number-case : tie.Need-slice-reshare-prefix-number-case
 slice-reshare-prefix-number-case c = search needs
 
 slice-aggregate-number-case : tie.Need-slice-aggregate-number-case
-slice-aggregate-number-case c = sym (length-take-le _ _ (c .before .before .before .before .before .before .bytes-at .ensures))
+slice-aggregate-number-case c =
+    let earlier = c .before .before .before .before .before in
+    let at-bytes-at = earlier .before in
+    sym (length-take-le _ _ (at-bytes-at .bytes-at .ensures))
 
 number-case-requires : tie.Need-number-case-requires
 number-case-requires c κs = search needs
@@ -50,7 +54,10 @@ slice-reshare-prefix-block-case : tie.Need-slice-reshare-prefix-block-case
 slice-reshare-prefix-block-case c = search needs
 
 slice-aggregate-block-case : tie.Need-slice-aggregate-block-case
-slice-aggregate-block-case c = sym (length-take-le _ _ (c .before .before .before .before .before .before .before .before .bytes-at .ensures))
+slice-aggregate-block-case c =
+    let earlier = c .before .before .before .before .before in
+    let at-bytes-at = earlier .before .before .before in
+    sym (length-take-le _ _ (at-bytes-at .bytes-at .ensures))
 
 block-case-requires : tie.Need-block-case-requires
 block-case-requires c κs = search needs
@@ -65,7 +72,10 @@ slice-reshare-prefix-page-case : tie.Need-slice-reshare-prefix-page-case
 slice-reshare-prefix-page-case c = search needs
 
 slice-aggregate-page-case : tie.Need-slice-aggregate-page-case
-slice-aggregate-page-case c = sym (length-take-le _ _ (c .before .before .before .before .before .before .before .before .bytes-at .ensures))
+slice-aggregate-page-case c =
+    let earlier = c .before .before .before .before .before in
+    let at-bytes-at = earlier .before .before .before in
+    sym (length-take-le _ _ (at-bytes-at .bytes-at .ensures))
 
 page-case-requires : tie.Need-page-case-requires
 page-case-requires c κs = search needs

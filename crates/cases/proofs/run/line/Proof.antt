@@ -1,3 +1,4 @@
+-- The line is a part of the room that it was read into.
 use mathlib.Core.Path.{sym}
 use lib.Seq.{length-take-le}
 use borrow.Author.Needs.{needs}

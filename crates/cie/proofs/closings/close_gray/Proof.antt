@@ -1,3 +1,4 @@
+-- Each call is the definition's step, on numbers that come through as they are.
 use mathlib.Core.Path.{_∙_}
 use Rattle.cie.proofs.Decodes.{decodes}
 use Rattle.fixed.proofs.Signs.{came, back! }

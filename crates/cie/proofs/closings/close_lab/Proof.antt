@@ -1,3 +1,4 @@
+-- Each call is the definition's step, on numbers that come through as they are.
 use mathlib.Core.Path.{_∙_}
 use Rattle.fixed.proofs.Signs.{came, back! }
 use Rattle.cie.specs.Steps.{whiteOf, labOf}

@@ -1,3 +1,4 @@
+-- The loop multiplies once for each further unit.
 use Prim.Native.Nat.{ℕ, zero, suc, _+_, _≤_, _-_}
 use native.Mathlib.Nat.{not-suc-le-zero}
 use lib.Ieee.{Float, binary64, mul}

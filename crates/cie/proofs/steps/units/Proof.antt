@@ -1,3 +1,4 @@
+-- A gamma that is not negative has its whole units, and a negative one has none.
 use mathlib.Core.Path.{_≡_, refl}
 use mathlib.Core.Bool.{true}
 use Prim.Native.Nat.{_/_, _<_}

@@ -1,3 +1,4 @@
+-- A negative number's bits are from 2^31 on.
 use mathlib.Core.Path.{_∙_}
 use Prim.Native.Nat.{_^_}
 use native.Mathlib.Omega.{arith}

@@ -1,3 +1,4 @@
+-- The four bytes of a number's bits are stored.
 use mathlib.Core.Path.{ap, _∙_}
 use Prim.Native.Nat.{ℕ}
 use denote.Ref.{now}
@@ -19,7 +20,11 @@ same-length : tie.Need-same-length
 same-length c = search needs
 
 returns : tie.Need-returns
-returns c = c .before .before .put-four .ensures ∙ ap (λ (n : ℕ). sets (now (c .before .before .before .before .before .before .args .out)) (c .before .before .before .before .before .before .args .at) (fourBytes n)) (c .before .before .before .of-signed .ensures ∙ ap bits (toZ-ofZ w32 _ (c .before .before .before .before .before .before .fits .v)))
+returns c =
+    let at-put-four = c .before .before in
+    let at-of-signed = at-put-four .before in
+    let start = at-of-signed .before .before .before in
+    at-put-four .put-four .ensures ∙ ap (λ (n : ℕ). sets (now (start .args .out)) (start .args .at) (fourBytes n)) (at-of-signed .of-signed .ensures ∙ ap bits (toZ-ofZ w32 _ (start .fits .v)))
 
 pub put-number-spec : {M : Type 1} → statement M
 put-number-spec = tie.close (tie.spec of-signed-requires put-four-requires same-length returns)

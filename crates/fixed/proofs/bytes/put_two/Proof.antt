@@ -1,3 +1,4 @@
+-- Two stores, one after the other.
 use native.Mathlib.Omega.{arith}
 use lib.ListN.{length-set}
 use Rattle.fixed.proofs.Stores.{two-stored}

@@ -1,3 +1,4 @@
+-- From 2^31 on the bits stand for a negative number.
 use mathlib.Core.Path.{_∙_, sym}
 use Rattle.fixed.proofs.Twos.{read-low, read-high}
 use borrow.Author.Needs.{needs}

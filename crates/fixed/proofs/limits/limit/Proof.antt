@@ -1,3 +1,4 @@
+-- Each exit is a case of `limited`.
 use Rattle.fixed.proofs.limits.limit.Statement.{statement}
 use Rattle.fixed.proofs.limits.limit.Tie as tie
 use Rattle.fixed.proofs.limits.limit.Reads as reads

@@ -1,3 +1,4 @@
+-- Each exit is a case of `limited`.
 use mathlib.Core.Path.{_≡_, subst}
 use mathlib.Core.Bool.{Bool, true, false}
 use Prim.Native.Nat.{_≤_}

@@ -1,3 +1,4 @@
+-- The weighted sum of two raised numbers, and its rounded quotient: the laws are in Way.
 use borrow.Author.Needs.{needs}
 use mathlib.Core.Path.{_∙_, sym}
 use native.Mathlib.Omega.{arith}

@@ -1,3 +1,4 @@
+-- Below a half the index is 0; from there on the sum is not negative, and the quotient is the floor.
 use mathlib.Core.Path.{_≡_, sym, subst, _∙_, ap}
 use Prim.Native.Nat.{ℕ, _+_, _*_, _-_, _/_, _<_, _≤_}
 use native.Mathlib.Nat.{div-lt-iff-lt-mul}

@@ -1,3 +1,4 @@
+-- The loop makes one power after the other; none is above 1.
 use mathlib.Core.Path.{_≡_, refl}
 use Prim.Native.Nat.{_≤_, _-_, _+_}
 use native.Mathlib.Omega.{arith}
@@ -6,8 +7,6 @@ use Rattle.fixed.proofs.Powers.{power-small, power-le, power-turn, powe
 use borrow.Author.Needs.{needs}
 use Rattle.fixed.proofs.rounding.tint_power.Statement.{statement}
 use Rattle.fixed.proofs.rounding.tint_power.Tie as tie
-use Rattle.fixed.proofs.rounding.tint_power.Reads as reads
-use Rattle.fixed.proofs.rounding.tint_power.Lts as lts
 
 abbrev Inv-loop : tie.InvT-loop
 Inv-loop x e wide q₀ i₀ q i = (q ≡ tintPower x i) × (q ≤ 1000000) × (1 ≤ i) × (i ≤ (e - 1) + 1)
@@ -15,40 +14,31 @@ Inv-loop x e wide q₀ i₀ q i = (q ≡ tintPower x i) × (q ≤ 1000000) × (1
 abbrev μ-loop : tie.MeasureT-loop
 μ-loop x e wide q₀ i₀ q i = e - i
 
--- src/lib.rt:260:5
 loop-holds : tie.Need-loop-holds Inv-loop μ-loop
 unfolding tintPower
 loop-holds c = (refl, search needs, search needs, search needs)
 
--- src/lib.rt:261:19
 mul-q : tie.Need-mul-q Inv-loop μ-loop
 mul-q c = omega (arith, power-small (c .before .loop .q) (c .before .before .args .x) (c .before .loop .inv .1) (c .before .before .pre))
 
--- src/lib.rt:261:14
 mul-q-2 : tie.Need-mul-q-2 Inv-loop μ-loop
 mul-q-2 c = omega (arith, power-small (c .before .loop .q) (c .before .before .args .x) (c .before .loop .inv .1) (c .before .before .pre))
 
--- src/lib.rt:261:14
 add-q : tie.Need-add-q Inv-loop μ-loop
 add-q c = omega (arith, power-small (c .before .loop .q) (c .before .before .args .x) (c .before .loop .inv .1) (c .before .before .pre))
 
--- src/lib.rt:262:9
 add-i : tie.Need-add-i Inv-loop μ-loop
 add-i c = search needs
 
--- src/lib.rt:260:5
 loop-less : tie.Need-loop-less Inv-loop μ-loop
 loop-less c = omega arith
 
--- src/lib.rt:260:5
 loop-again : tie.Need-loop-again Inv-loop μ-loop
 loop-again c = let v = c .before .loop .inv in (power-turn _ _ _ (v .2) (v .0), power-le _ _ (v .1) (c .before .before .pre), omega arith, omega arith)
 
--- src/lib.rt:264:5
 cast-result : tie.Need-cast-result Inv-loop μ-loop
 cast-result c = omega arith
 
--- src/lib.rt:252:1
 returns : tie.Need-returns Inv-loop μ-loop
 returns c = let v = c .before .loop .inv in (power-end _ _ _ _ (v .2) (c .loop-test .left) (v .3) (v .0), v .1)
 

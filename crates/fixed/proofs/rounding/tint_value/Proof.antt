@@ -1,3 +1,4 @@
+-- A part of the way in steps of a million.
 use borrow.Author.Needs.{needs}
 use mathlib.Core.Path.{_∙_}
 use mir.Syntax.{w32}

@@ -34,16 +34,24 @@ laid-requires c κs = search needs
 
 returns : tie.Need-returns
 returns c =
-    let p = c .before .before .before .before .before .before .before .before .before .before .before .before .before .before .before .before .before .before .args .p in
-    let k = c .before .before .before .before .before .before .before .before .before .before .before .before .before .before .before .struct-known .given in
-    let t = c .before .before .before .before .before .before .before .before .before .before .before .struct-told .given in
-    let u = c .before .before .before .before .before .before .struct-told5 .given in
+    let at-triple4 = c .before in
+    let at-triple3 = at-triple4 .before .before .before in
+    let at-struct-told5 = at-triple3 .before .before in
+    let at-triple2 = at-struct-told5 .before .before in
+    let at-struct-told = at-triple2 .before .before .before in
+    let at-triple = at-struct-told .before in
+    let at-struct-known = at-triple .before .before .before in
+    let start = at-struct-known .before .before .before in
+    let p = start .args .p in
+    let k = at-struct-known .struct-known .given in
+    let t = at-struct-told .struct-told .given in
+    let u = at-struct-told5 .struct-told5 .given in
     c .laid .ensures
     ∙ simp (
-      c .before .before .before .before .before .before .before .before .before .before .before .before .triple .ensures,
-      c .before .before .before .before .before .before .before .before .triple2 .ensures,
-      c .before .before .before .before .triple3 .ensures,
-      c .before .triple4 .ensures,
+      at-triple .triple .ensures,
+      at-triple2 .triple2 .ensures,
+      at-triple3 .triple3 .ensures,
+      at-triple4 .triple4 .ensures,
       toZ-pos w32 (p .alternate) (omega (arith, k)),
       toZ-pos w32 (p .exponent) (omega (arith, k)),
       toZ-pos w32 (p .«name_len») (omega (arith, k)),

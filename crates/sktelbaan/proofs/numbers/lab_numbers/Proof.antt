@@ -16,12 +16,16 @@ laid-requires c κs = search needs
 
 returns : tie.Need-returns
 returns c =
-    let q = c .before .before .before .before .before .before .before .before .before .before .args .g .range in
-    let t = c .before .before .before .before .before .before .struct-told .given in
+    let at-triple2 = c .before in
+    let at-triple = at-triple2 .before .before in
+    let at-struct-told = at-triple .before .before .before in
+    let start = at-struct-told .before .before .before .before in
+    let q = start .args .g .range in
+    let t = at-struct-told .struct-told .given in
     c .laid .ensures
     ∙ simp (
-      c .before .before .before .triple .ensures,
-      c .before .triple2 .ensures,
+      at-triple .triple .ensures,
+      at-triple2 .triple2 .ensures,
       came (q .amin) (t .0 .1),
       came (q .amax) (t .1 .0 .1),
       came (q .bmin) (t .1 .1 .0 .1),

@@ -25,11 +25,17 @@ cast-t9 c = search needs
 
 returns : tie.Need-returns
 returns c =
-    let p = c .before .before .before .before .before .struct-told .given in
-    let q = c .before .before .before .before .struct-told2 .given in
-    let r = c .before .before .before .struct-told3 .given in
-    let a = c .before .before .struct-told4 .given in
-    let b = c .before .struct-told5 .given in
+    let at-struct-told5 = c .before in
+    let at-struct-told4 = at-struct-told5 .before in
+    let at-struct-told3 = at-struct-told4 .before in
+    let at-struct-told2 = at-struct-told3 .before in
+    let at-struct-told = at-struct-told2 .before in
+    let start = at-struct-told .before in
+    let p = at-struct-told .struct-told .given in
+    let q = at-struct-told2 .struct-told2 .given in
+    let r = at-struct-told3 .struct-told3 .given in
+    let a = at-struct-told4 .struct-told4 .given in
+    let b = at-struct-told5 .struct-told5 .given in
     let d = c .struct-told6 .given in
     let rest =
     back _ (p .0 .1) (p .1 .0 .1) (p .1 .1 .0 .1)
@@ -38,7 +44,7 @@ returns c =
     (back _ (a .0 .1) (a .1 .0 .1) (a .1 .1 .0 .1)
     (back _ (b .0 .1) (b .1 .0 .1) (b .1 .1 .0 .1)
     (back _ (d .0 .1) (d .1 .0 .1) (d .1 .1 .0 .1) refl))))) in
-    λ i. toZ-pos w32 (c .before .before .before .before .before .before .args .own) (omega arith) i ∷ back! (c .before .before .before .before .before .before .fits .kind) i ∷ rest i
+    λ i. toZ-pos w32 (start .args .own) (omega arith) i ∷ back! (start .fits .kind) i ∷ rest i
 
 pub laid-spec : {M : Type 1} → statement M
 laid-spec = tie.close (tie.spec cast-t9 returns)

@@ -1,3 +1,4 @@
+-- A loop over pairs of digits: no more bytes are put than there is room for.
 use lib.ListN.{length-set}
 use native.Mathlib.Omega.{arith}
 use mathlib.Core.Path.{_≡_}

@@ -1,3 +1,4 @@
+-- A loop over digits: the number stays below its bound, and the place moves on.
 use Prim.Native.Nat.{_<_, _-_}
 use lib.ListN.{length}
 use borrow.Author.Needs.{needs}

@@ -1,3 +1,4 @@
+-- A scan for a byte, which ends with the text.
 use Prim.Native.Nat.{_-_}
 use lib.ListN.{length}
 use borrow.Author.Needs.{needs}

@@ -1,3 +1,4 @@
+-- A loop over bytes read one by one: no more are put than there is room for.
 use lib.ListN.{length-set}
 use native.Mathlib.Omega.{arith}
 use mathlib.Core.Path.{_≡_}

@@ -1,3 +1,4 @@
+-- A loop over numbers: no more are put than there is room for, and each takes a byte at least.
 use Prim.Native.Nat.{_≤_, _-_}
 use borrow.Author.Needs.{needs}
 use Rattle.text.proofs.input.numbers_at.Statement.{statement}

@@ -1,3 +1,4 @@
+-- A number that equals itself is no NaN, so its bits may be asked for.
 use mathlib.Core.Path.{_≡_, sym}
 use mathlib.Core.Bool.{true, false, true≢false, not}
 use lib.Dec.{T}

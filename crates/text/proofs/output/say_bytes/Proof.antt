@@ -1,3 +1,4 @@
+-- A loop over the bytes, each written by itself.
 use native.Mathlib.Omega.{arith}
 use Prim.Native.Nat.{_≤_, _-_}
 use lib.ListN.{length}

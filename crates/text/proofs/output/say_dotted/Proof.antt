@@ -1,3 +1,4 @@
+-- A loop over the bytes, each written by itself.
 use Prim.Native.Nat.{_-_}
 use lib.ListN.{length}
 use borrow.Author.Needs.{needs}
