@@ -63,7 +63,8 @@ enum sktelbaan_kinds {
  *     Indexed       base, hival
  *     Separation    alternate, exponent, length of the name, C0 (four), C1 (four)
  *
- * Base and alternate are a block's number or a device code. They, hival, the exponent and the length count units; the others are in millionths.
+ * Base and alternate are a block's number or a device code. They, hival, the exponent and the length count units; the others are in millionths, so a gamma
+ * of 1.8 is 1800000.
  * The bytes are a Separation's name in the first 127, or a part of a palette in all 504; the others are 0. */
 enum { SKTELBAAN_RECORD_NUMBERS = 20, SKTELBAAN_RECORD_BYTES = 504 };
 

@@ -59,7 +59,7 @@ enum sktelbaan_refusals {
     /* A number is none that PDF allows: white X or Z not above 0 or white Y not 1, a black point below 0, a CalGray gamma not above 0, a range whose low
      * end is above its high end, or hival above 255. */
     SKTELBAAN_REFUSED_NUMBER = 4,
-    /* A gamma or an exponent is none that is carried here: not a whole number from 1 to 4. */
+    /* A gamma or an exponent is none that is carried here: a gamma not 0.1 to 4.0 in whole tenths, an exponent not 1 to 4. */
     SKTELBAAN_REFUSED_POWER = 5,
     /* A reference is neither a device code nor a block of the page, or the block is of a kind that may not be used there. */
     SKTELBAAN_REFUSED_REFERENCE = 6,
@@ -83,7 +83,7 @@ static inline const char *sktelbaan_refusal_text(uint32_t refusal) {
         "a block's check is not that of its bytes",
         "a block of unknown kind, with a wrong own number, a byte that should be zero, or a bad name",
         "a white point, black point, gamma, range or hival that PDF does not allow",
-        "a gamma or an exponent that is not a whole number from 1 to 4",
+        "a gamma that is not 0.1 to 4.0 in whole tenths, or an exponent that is not 1 to 4",
         "a reference to no block of the page, or to a kind that may not be used there",
         "a palette too short, with spare bytes not zero, or of no Indexed space; or C0 or C1 longer than the alternate's colours",
         "the number asked for is neither a device code nor a block with a space",

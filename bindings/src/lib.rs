@@ -120,7 +120,7 @@ const MEANINGS: [&str; 11] = [
     "a block's check is not that of its bytes",
     "a block of unknown kind, with a wrong own number, a byte that should be zero, or a bad name",
     "a white point, black point, gamma, range or hival that PDF does not allow",
-    "a gamma or an exponent that is not a whole number from 1 to 4",
+    "a gamma that is not 0.1 to 4.0 in whole tenths, or an exponent that is not 1 to 4",
     "a reference to no block of the page, or to a kind that may not be used there",
     "a palette too short, with spare bytes not zero, or of no Indexed space; or C0 or C1 longer than the alternate's colours",
     "the number asked for is neither a device code nor a block with a space",

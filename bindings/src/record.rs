@@ -16,7 +16,7 @@ pub enum Body {
         white: [i32; 3],
         /// The black point X, Y, Z.
         black: [i32; 3],
-        /// The gamma.
+        /// The gamma, 0.1 to 4.0 in whole tenths.
         gamma: i32,
     },
     /// Kind 2: a CalRGB space.
@@ -25,7 +25,7 @@ pub enum Body {
         white: [i32; 3],
         /// The black point X, Y, Z.
         black: [i32; 3],
-        /// The gammas of A, B and C.
+        /// The gammas of A, B and C, each 0.1 to 4.0 in whole tenths.
         gammas: [i32; 3],
         /// The matrix: XA YA ZA XB YB ZB XC YC ZC.
         matrix: [i32; 9],

@@ -6,17 +6,23 @@
 //! - `validate`: the check is summed in columns, zeros are sought without an early way out, and a palette block is
 //!   known to be astray by the end of the last run.
 //! - `run`: a recipe is read in place, with no list of its steps, and roundings keep to 64 bits.
-//! - `evaluate`: the fast validation, then the plain colour steps.
+//! - gammas in tenths: the power in floats, and the plain search only where a float does not decide.
+//! - `evaluate`: the fast validation, CalGray and CalRGB as in `run`, then the plain colour steps.
 
+mod decode;
 mod run;
 mod validate;
 
+pub use decode::settled;
 pub use run::run;
 pub use validate::{sums, validate};
 
+use reference::block::Body;
 use reference::cie::Answer;
 use reference::colour::answer;
-use reference::page::components;
+use reference::gamma::tenths;
+use reference::numbers::{limit, ONE};
+use reference::page::{block_at, components};
 
 /// A refusal that is about no block.
 fn refused(number: u32) -> Answer {
@@ -40,6 +46,21 @@ pub fn evaluate(page: &[u8], number: u32, colour: &[i32]) -> Answer {
     match components(page, number) {
         None => refused(8),
         Some(count) if colour.len() != count => refused(9),
-        Some(_) => answer(page, number, values_of(colour)),
+        Some(_) => answered(page, number, values_of(colour)),
+    }
+}
+
+/// The answer on an accepted page that has the space.
+fn answered(page: &[u8], number: u32, values: [i32; 4]) -> Answer {
+    let p = |gamma| tenths(gamma).unwrap_or(10);
+    let [a, b, c, _] = values.map(|v| limit(v, 0, ONE));
+    match block_at(page, number as usize).and_then(Body::of) {
+        Some(Body::CalGray { white, gamma, .. }) => {
+            Answer::Xyz(decode::cal_gray(white[0], white[2], p(gamma), a))
+        }
+        Some(Body::CalRgb { gammas, matrix, .. }) => {
+            Answer::Xyz(decode::cal_rgb(gammas.map(p), matrix, [a, b, c]))
+        }
+        _ => answer(page, number, values),
     }
 }

@@ -172,6 +172,15 @@ fn moved(rng: &mut Rng, number: &mut i32) {
     };
 }
 
+/// A gamma in place of another: a count of twentieths, carried or not, or as any number.
+fn moved_gamma(rng: &mut Rng, gamma: &mut i32) {
+    if rng.once_in(2) {
+        *gamma = rng.near_gamma();
+    } else {
+        moved(rng, gamma);
+    }
+}
+
 /// A reference in place of another: a device code, near one, a block's number, one past the last, any.
 fn moved_reference(rng: &mut Rng, reference: &mut u16) {
     *reference = match rng.below(4) {
@@ -192,7 +201,7 @@ fn alter_body(rng: &mut Rng, body: &mut Body) {
             black,
             gamma,
         } => match pick % 7 {
-            6 => moved(rng, gamma),
+            6 => moved_gamma(rng, gamma),
             k if k < 3 => moved(rng, &mut white[k]),
             k => moved(rng, &mut black[k - 3]),
         },
@@ -204,7 +213,7 @@ fn alter_body(rng: &mut Rng, body: &mut Body) {
         } => match pick % 18 {
             k if k < 3 => moved(rng, &mut white[k]),
             k if k < 6 => moved(rng, &mut black[k - 3]),
-            k if k < 9 => moved(rng, &mut gammas[k - 6]),
+            k if k < 9 => moved_gamma(rng, &mut gammas[k - 6]),
             k => moved(rng, &mut matrix[k - 9]),
         },
         Body::Lab {

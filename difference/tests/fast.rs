@@ -2,6 +2,7 @@
 
 use difference::{compare, fast, FAST};
 use reference::block::{sums, BLOCK};
+use reference::gamma::greatest;
 use reference::generate::Rng;
 
 /// How many pages are compared: fewer where the tests are not built for speed.
@@ -28,6 +29,16 @@ fn check_sums_are_alike() {
         assert_eq!(fast::sums(&block), sums(&block));
     }
     assert_eq!(fast::sums(&[0xff; BLOCK]), sums(&[0xff; BLOCK]));
+}
+
+#[test]
+fn gammas_in_tenths_are_alike() {
+    let step = if cfg!(debug_assertions) { 97 } else { 1 };
+    for p in (1..40).filter(|p| p % 10 != 0) {
+        for u in (0..=10_000).step_by(step) {
+            assert_eq!(fast::settled(u, p), greatest(u, p), "{u} by {p}");
+        }
+    }
 }
 
 #[test]

@@ -1,5 +1,6 @@
 //! The CIE-based colour steps of document 01: "each float operation below rounds once, in the order written".
 
+use crate::gamma::decode;
 use crate::numbers::float_of;
 
 /// "An answer is one of Gray, RGB, CMYK or XYZ with its floats, or a refusal."
@@ -48,29 +49,19 @@ impl PartialEq for Answer {
 
 impl Eq for Answer {}
 
-/// "A to gamma 1 is A; each further unit multiplies the product so far by A."
-/// The gamma is given in whole units; 0 counts as 1.
-pub fn decode(a: f64, units: u8) -> f64 {
-    let mut product = a;
-    for _ in 1..units {
-        product *= a;
-    }
-    product
-}
-
 /// CalGray: "A the decoded float; X = float(XW) x A, Y = A, Z = float(ZW) x A", for a component v as it stands
-/// and a gamma in whole units.
-pub fn cal_gray(xw: i32, zw: i32, units: u8, v: i32) -> [f64; 3] {
-    let a = decode(float_of(v), units);
+/// and a gamma of p tenths.
+pub fn cal_gray(xw: i32, zw: i32, p: u8, v: i32) -> [f64; 3] {
+    let a = decode(v, p);
     [float_of(xw) * a, a, float_of(zw) * a]
 }
 
 /// CalRGB: "X = ((XA x A) + (XB x B)) + (XC x C), likewise Y and Z", for three components as they stand, gammas in
-/// whole units, and the matrix in the record's order: XA YA ZA XB YB ZB XC YC ZC.
-pub fn cal_rgb(units: [u8; 3], matrix: [i32; 9], abc: [i32; 3]) -> [f64; 3] {
-    let a = decode(float_of(abc[0]), units[0]);
-    let b = decode(float_of(abc[1]), units[1]);
-    let c = decode(float_of(abc[2]), units[2]);
+/// tenths, and the matrix in the record's order: XA YA ZA XB YB ZB XC YC ZC.
+pub fn cal_rgb(tenths: [u8; 3], matrix: [i32; 9], abc: [i32; 3]) -> [f64; 3] {
+    let a = decode(abc[0], tenths[0]);
+    let b = decode(abc[1], tenths[1]);
+    let c = decode(abc[2], tenths[2]);
     let [xa, ya, za, xb, yb, zb, xc, yc, zc] = matrix.map(float_of);
     [
         ((xa * a) + (xb * b)) + (xc * c),
@@ -146,36 +137,35 @@ mod tests {
     }
 
     #[test]
-    fn decode_multiplies_the_product_so_far() {
-        let a = float_of(700_001);
-        assert_eq!(decode(a, 1).to_bits(), a.to_bits());
-        assert_eq!(decode(a, 2).to_bits(), (a * a).to_bits());
-        assert_eq!(decode(a, 3).to_bits(), ((a * a) * a).to_bits());
-        assert_eq!(decode(a, 4).to_bits(), (((a * a) * a) * a).to_bits());
-    }
-
-    #[test]
     fn cal_gray_white_and_black() {
-        for units in 1..=4 {
+        for p in 1..=40 {
             assert_eq!(
-                bits(cal_gray(XW, ZW, units, 1_000_000)),
+                bits(cal_gray(XW, ZW, p, 1_000_000)),
                 bits([0.9505, 1.0, 1.089])
             );
-            assert_eq!(bits(cal_gray(XW, ZW, units, 0)), bits([0.0; 3]));
+            assert_eq!(bits(cal_gray(XW, ZW, p, 0)), bits([0.0; 3]));
         }
+        // Half to 1.8 is 0.2871, cut off after four digits.
+        assert_eq!(
+            bits(cal_gray(XW, ZW, 18, 500_000)),
+            bits([0.9505 * 0.2871, 0.2871, 1.089 * 0.2871])
+        );
     }
 
     #[test]
     fn the_first_three_matrix_numbers_belong_to_a() {
         let m = [1, 2, 3, 4, 5, 6, 7, 8, 9].map(|v| v * 100_000);
         let one = 1_000_000;
-        assert_eq!(bits(cal_rgb([1; 3], m, [one, 0, 0])), bits([0.1, 0.2, 0.3]));
-        assert_eq!(bits(cal_rgb([1; 3], m, [0, one, 0])), bits([0.4, 0.5, 0.6]));
-        assert_eq!(bits(cal_rgb([1; 3], m, [0, 0, one])), bits([0.7, 0.8, 0.9]));
-        assert_eq!(
-            bits(cal_rgb([1; 3], [-one; 9], [0; 3])),
-            bits([-0.0, -0.0, -0.0])
-        );
+        for tenths in [[10; 3], [1, 18, 22]] {
+            let rgb = |abc: [i32; 3]| bits(cal_rgb(tenths, m, abc));
+            assert_eq!(rgb([one, 0, 0]), bits([0.1, 0.2, 0.3]));
+            assert_eq!(rgb([0, one, 0]), bits([0.4, 0.5, 0.6]));
+            assert_eq!(rgb([0, 0, one]), bits([0.7, 0.8, 0.9]));
+            assert_eq!(
+                bits(cal_rgb(tenths, [-one; 9], [0; 3])),
+                bits([-0.0, -0.0, -0.0])
+            );
+        }
     }
 
     #[test]

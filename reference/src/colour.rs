@@ -2,7 +2,8 @@
 
 use crate::block::Body;
 use crate::cie::{cal_gray, cal_rgb, lab, Answer};
-use crate::numbers::{float_of, house_units, index, limit, palette_value, tint_power, tint_value};
+use crate::gamma::tenths;
+use crate::numbers::{float_of, index, limit, palette_value, tint_power, tint_value};
 use crate::page::{body_at, components, family, palette_byte, ranges, validate, Family};
 
 /// The refusal that belongs to no block.
@@ -40,10 +41,10 @@ pub fn answer(page: &[u8], number: u32, values: [i32; 4]) -> Answer {
         (Some(Family::DeviceCmyk), _) => Answer::Cmyk([a, b, c, d].map(float_of)),
         (_, Some(Body::CalGray { white, gamma, .. })) => {
             let [xw, _, zw] = white;
-            Answer::Xyz(cal_gray(xw, zw, units(gamma), a))
+            Answer::Xyz(cal_gray(xw, zw, carried(gamma), a))
         }
         (_, Some(Body::CalRgb { gammas, matrix, .. })) => {
-            Answer::Xyz(cal_rgb(gammas.map(units), matrix, [a, b, c]))
+            Answer::Xyz(cal_rgb(gammas.map(carried), matrix, [a, b, c]))
         }
         (_, Some(Body::Lab { white, .. })) => {
             let [xw, _, zw] = white;
@@ -67,9 +68,9 @@ fn limited(page: &[u8], number: u32, values: [i32; 4]) -> [i32; 4] {
     std::array::from_fn(|k| limit(values[k], ranges[k].0, ranges[k].1))
 }
 
-/// The whole units of a gamma, which an accepted page's gamma has.
-fn units(gamma: i32) -> u8 {
-    house_units(gamma).unwrap_or(1)
+/// The count of tenths of a gamma, which an accepted page's gamma has.
+fn carried(gamma: i32) -> u8 {
+    tenths(gamma).unwrap_or(10)
 }
 
 /// The components that a row of an Indexed space's palette gives: "The result is a colour of the base."

@@ -15,7 +15,7 @@ use crate::numbers::ONE;
 
 /// A colour component that looks for edges: ends of ranges, halves between indices, and any number at all.
 pub fn random_component(rng: &mut Rng) -> i32 {
-    match rng.below(6) {
+    match rng.below(7) {
         0 => rng.number(),
         1 => rng.between(-ONE / 2, ONE + ONE / 2),
         2 => rng.between(0, ONE),
@@ -23,6 +23,8 @@ pub fn random_component(rng: &mut Rng) -> i32 {
         3 => rng.between(-2, 257) * ONE + ONE / 2 + rng.between(-1, 1),
         // Lab's seam, where a* and b* are about 0.
         4 => 8 * ONE + rng.between(-2, 2),
+        // Where a component in ten-thousandths turns.
+        5 => rng.between(-1, 10_000) * 100 + 50 + rng.between(-1, 1),
         _ => rng.between(-130 * ONE, 130 * ONE),
     }
 }

@@ -4,7 +4,8 @@
 //! with what the proved library answers. It is plain: a function does what a sentence of document 01 says, which stands
 //! quoted above it, and nothing is done for speed. The operations take any input whatever and come back with a reply.
 //!
-//! Document 01's order: [`numbers`], [`block`], [`page`], [`cie`], [`colour`], [`recipe`], [`runner`], [`listing`].
+//! Document 01's order: [`numbers`], [`block`], [`page`], [`cie`], [`colour`], [`recipe`], [`runner`], [`listing`];
+//! document 02's: [`gamma`].
 //! The rest serves tests and texts: [`generate`], [`records`], [`cases`], [`samples`].
 #![forbid(unsafe_code)]
 
@@ -12,6 +13,7 @@ pub mod block;
 pub mod cases;
 pub mod cie;
 pub mod colour;
+pub mod gamma;
 pub mod generate;
 pub mod listing;
 pub mod numbers;

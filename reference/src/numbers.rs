@@ -94,11 +94,6 @@ pub fn tint_value(c0: i32, c1: i32, q: i32) -> i32 {
     half_up(1_000_000 * c0 + q * (c1 - c0), 1_000_000) as i32
 }
 
-/// "Each gamma and each exponent is whole, 1 to 4": the units of a gamma in millionths, none for any other gamma.
-pub fn house_units(gamma: i32) -> Option<u8> {
-    (1..=4).find(|units| i32::from(*units) * ONE == gamma)
-}
-
 #[cfg(test)]
 mod tests {
     use super::*;
@@ -223,9 +218,5 @@ mod tests {
         assert_eq!(float_of(1_000_000).to_bits(), 1.0f64.to_bits());
         assert_eq!(float_of(0).to_bits(), 0.0f64.to_bits());
         assert_eq!(float_of(950_500).to_bits(), 0.9505f64.to_bits());
-        assert_eq!(house_units(4_000_000), Some(4));
-        assert_eq!(house_units(1_800_000), None);
-        assert_eq!(house_units(5_000_000), None);
-        assert_eq!(house_units(0), None);
     }
 }

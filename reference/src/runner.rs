@@ -2,7 +2,8 @@
 
 use crate::cie::{cal_gray, cal_rgb, lab, Answer};
 use crate::colour::{refused, values_of};
-use crate::numbers::{float_of, house_units, index, limit, tint_power, tint_value, ONE};
+use crate::gamma::tenths;
+use crate::numbers::{float_of, index, limit, tint_power, tint_value, ONE};
 use crate::recipe::MOST_WORDS;
 
 /// A recipe that was read: "the input count 1..4, steps, one closing step, nothing more".
@@ -61,13 +62,13 @@ pub enum Closing {
         xw: i32,
         /// The white point's Z.
         zw: i32,
-        /// The gamma in whole units.
-        units: u8,
+        /// The gamma in tenths.
+        gamma: u8,
     },
     /// "8 three gammas, nine matrix numbers".
     CalRgb {
-        /// The gammas in whole units.
-        units: [u8; 3],
+        /// The gammas in tenths.
+        gammas: [u8; 3],
         /// The matrix in the record's order.
         matrix: [i32; 9],
     },
@@ -107,21 +108,21 @@ pub fn step(words: &[i32]) -> Option<(Step<'_>, &[i32])> {
     }
 }
 
-/// The closing step that these words are, all of them; none where they are not one. "Gammas as the house limit; words
-/// given no bound here may be any."
+/// The closing step that these words are, all of them; none where they are not one. "Gammas as the house limit", by
+/// document 02 in tenths: "the runner and the demands take the same gammas"; "words given no bound here may be any."
 pub fn closing(words: &[i32]) -> Option<Closing> {
     match *words {
         [4] => Some(Closing::Gray),
         [5] => Some(Closing::Rgb),
         [6] => Some(Closing::Cmyk),
         [7, xw, zw, gamma] => {
-            let units = house_units(gamma)?;
-            Some(Closing::CalGray { xw, zw, units })
+            let gamma = tenths(gamma)?;
+            Some(Closing::CalGray { xw, zw, gamma })
         }
         [8, g1, g2, g3, ref matrix @ ..] => {
-            let units = [house_units(g1)?, house_units(g2)?, house_units(g3)?];
+            let gammas = [tenths(g1)?, tenths(g2)?, tenths(g3)?];
             let matrix = matrix.try_into().ok()?;
-            Some(Closing::CalRgb { units, matrix })
+            Some(Closing::CalRgb { gammas, matrix })
         }
         [9, xw, zw] => Some(Closing::Lab { xw, zw }),
         _ => None,
@@ -187,8 +188,8 @@ pub fn close(closing: &Closing, values: [i32; 4]) -> Answer {
         Closing::Gray => Answer::Gray(float_of(a)),
         Closing::Rgb => Answer::Rgb([a, b, c].map(float_of)),
         Closing::Cmyk => Answer::Cmyk([a, b, c, d].map(float_of)),
-        Closing::CalGray { xw, zw, units } => Answer::Xyz(cal_gray(xw, zw, units, a)),
-        Closing::CalRgb { units, matrix } => Answer::Xyz(cal_rgb(units, matrix, [a, b, c])),
+        Closing::CalGray { xw, zw, gamma } => Answer::Xyz(cal_gray(xw, zw, gamma, a)),
+        Closing::CalRgb { gammas, matrix } => Answer::Xyz(cal_rgb(gammas, matrix, [a, b, c])),
         Closing::Lab { xw, zw } => Answer::Xyz(lab(xw, zw, a, b, c)),
     }
 }

@@ -99,6 +99,11 @@ pub fn all() -> Vec<Sample> {
             page(&[cal_rgb(0, [2 * ONE; 3])]),
         ),
         sample(
+            "scanner",
+            "Gammas in tenths, as scanners write them: a CalGray space with gamma 1.8 (block 0) and a CalRGB space with gammas 2.2 (block 1).",
+            page(&[cal_gray(0, 1_800_000), cal_rgb(1, [2_200_000; 3])]),
+        ),
+        sample(
             "lab",
             "A Lab space: the same white, a* and b* from -100 to 100.",
             page(&[lab(0, USUAL)]),
@@ -145,6 +150,8 @@ pub fn all() -> Vec<Sample> {
 const COLOURS: &[(&str, u32, &[i32])] = &[
     ("gray", 0, &[ONE]),
     ("rgb", 0, &[250_000, 500_000, 750_000]),
+    ("scanner", 0, &[500_000]),
+    ("scanner", 1, &[250_000, 500_000, 750_000]),
     ("lab", 0, &[50 * ONE, 20 * ONE, -30 * ONE]),
     ("indexed", 0, &[5 * ONE]),
     ("separation", 0, &[500_000]),

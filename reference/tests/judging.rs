@@ -83,7 +83,7 @@ fn faults(page: &[u8]) -> Vec<(u32, u32, u32)> {
                 fault(2, 4);
             }
         }
-        let house = |v: i128| v % 1_000_000 == 0 && (1..=4).contains(&(v / 1_000_000));
+        let house = |v: i128| v % 100_000 == 0 && (1..=40).contains(&(v / 100_000));
         match kind {
             1 => {
                 if four(n, 28) <= 0 {
@@ -282,7 +282,7 @@ fn references_look_at_the_kind_alone() {
             record(1, cal_gray(ONE)),
         ],
         1,
-        |block| block[28..32].copy_from_slice(&1_800_000i32.to_be_bytes()),
+        |block| block[28..32].copy_from_slice(&1_850_000i32.to_be_bytes()),
     );
     assert_eq!(validate(&faulty), Err((5, 1)));
     let over = |kind: Body| {

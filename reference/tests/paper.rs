@@ -190,7 +190,9 @@ fn gammas() {
         })
     };
     assert_eq!(validate(&with(4 * ONE)), Ok(1));
-    assert_eq!(validate(&with(1_800_000)), Err((5, 0)));
+    assert_eq!(validate(&with(1_800_000)), Ok(1));
+    assert_eq!(validate(&with(1_850_000)), Err((5, 0)));
+    assert_eq!(validate(&with(4_100_000)), Err((5, 0)));
     assert_eq!(validate(&with(5 * ONE)), Err((5, 0)));
     assert_eq!(validate(&with(0)), Err((4, 0)));
     assert_eq!(validate(&with(-ONE)), Err((4, 0)));
@@ -203,7 +205,9 @@ fn gammas() {
         assert_eq!(validate(&with(4 * ONE)), Ok(1));
         assert_eq!(validate(&with(0)), Err((5, 0)));
         assert_eq!(validate(&with(-ONE)), Err((5, 0)));
-        assert_eq!(validate(&with(1_800_000)), Err((5, 0)));
+        assert_eq!(validate(&with(1_800_000)), Ok(1));
+        assert_eq!(validate(&with(1_850_000)), Err((5, 0)));
+        assert_eq!(validate(&with(4_100_000)), Err((5, 0)));
     }
 }
 

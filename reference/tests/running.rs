@@ -98,6 +98,13 @@ fn ill_formed_recipes_are_11() {
         vec![1, 7, 0, 0, 1],
         vec![1, 7, 0, 0, 5 * ONE],
         vec![1, 7, 0, 0, ONE + 1],
+        vec![1, 7, 0, 0, 50_000],
+        vec![1, 7, 0, 0, 1_850_000],
+        vec![1, 7, 0, 0, 4_100_000],
+        vec![1, 7, 0, 0, -100_000],
+        matrix([1_850_000, ONE, ONE], &nine),
+        matrix([ONE, 4_100_000, ONE], &nine),
+        matrix([ONE, ONE, 50_000], &nine),
         vec![1, 7, 0, 0, ONE, 0],
         matrix([0, ONE, ONE], &nine),
         matrix([ONE, 0, ONE], &nine),
@@ -116,6 +123,9 @@ fn ill_formed_recipes_are_11() {
         vec![1, 4],
         vec![4, 6],
         vec![1, 7, 0, 0, 4 * ONE],
+        vec![1, 7, 0, 0, 100_000],
+        vec![1, 7, 0, 0, 1_800_000],
+        matrix([2_200_000, 100_000, 3_900_000], &nine),
         matrix([ONE; 3], &nine),
         vec![1, 9, 0, 0],
         vec![1, 1, 3, 5, 5, 2, 1, 0, 9, 3, 4, 1, 0, 0, 4],
@@ -222,13 +232,13 @@ fn slow(words: &[i32], colour: &[i32]) -> Option<Answer> {
             }
             7 => {
                 let (xw, zw, gamma) = (queue.next()?, queue.next()?, queue.next()?);
-                let a = slow_decode(float(values[0]), gamma)?;
+                let a = slow_decode(values[0], gamma)?;
                 break Answer::Xyz([float(xw) * a, a, float(zw) * a]);
             }
             8 => {
                 let mut decoded = [0.0; 3];
                 for k in 0..3 {
-                    decoded[k] = slow_decode(float(values[k]), queue.next()?)?;
+                    decoded[k] = slow_decode(values[k], queue.next()?)?;
                 }
                 let m: Vec<f64> = queue.by_ref().take(9).map(float).collect();
                 if m.len() != 9 {
@@ -284,15 +294,53 @@ fn slow(words: &[i32], colour: &[i32]) -> Option<Answer> {
     Some(answer)
 }
 
-/// Decode for the slow runner; none for a gamma that is not 1, 2, 3 or 4 in millionths.
-fn slow_decode(a: f64, gamma: i128) -> Option<f64> {
+/// Decode for the slow runner; none for a gamma that is no count of tenths, 1 to 40, in millionths.
+fn slow_decode(v: i128, gamma: i128) -> Option<f64> {
+    let a = v as f64 / 1_000_000.0;
     match gamma {
         1_000_000 => Some(a),
         2_000_000 => Some(a * a),
         3_000_000 => Some((a * a) * a),
         4_000_000 => Some(((a * a) * a) * a),
+        100_000..=3_900_000 if gamma % 100_000 == 0 => {
+            let u = (v.clamp(0, 1_000_000) + 50).div_euclid(100);
+            Some(slow_tenths(u as u64, gamma as u64 / 100_000) as f64 / 10_000.0)
+        }
         _ => None,
     }
+}
+
+/// The greatest number of 0..10000 whose tenth power is at most u^p x 10000^(10 - p), looked for downward from a little
+/// above a guess. The p - 10 divisions by 10000, where p is above 10, are multiplications on the other side.
+fn slow_tenths(u: u64, p: u64) -> u64 {
+    let guess = 10_000.0 * (u as f64 / 10_000.0).powf(p as f64 / 10.0);
+    let right = slow_power(&[(u, p), (10_000, 10u64.saturating_sub(p))]);
+    let holds = |v: &u64| {
+        slow_power(&[(*v, 10), (10_000, p.saturating_sub(10))])
+            .iter()
+            .rev()
+            .le(right.iter().rev())
+    };
+    let from = (guess as u64 + 2).min(10_000);
+    (0..=from).rev().find(holds).unwrap()
+}
+
+/// A product of powers in 40 parts of five decimal digits, the lowest first.
+fn slow_power(powers: &[(u64, u64)]) -> [u64; 40] {
+    let mut parts = [0; 40];
+    parts[0] = 1;
+    for &(base, exponent) in powers {
+        for _ in 0..exponent {
+            let mut over = 0;
+            for part in &mut parts {
+                let product = *part * base + over;
+                *part = product % 100_000;
+                over = product / 100_000;
+            }
+            assert_eq!(over, 0);
+        }
+    }
+    parts
 }
 
 #[test]

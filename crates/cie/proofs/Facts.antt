@@ -1,12 +1,13 @@
 -- Facts of colours that FORMAT.md has among its worked values, from the definitions alone.
 use mathlib.Core.Path.{_≡_, refl, sym, ap, _∙_, subst}
 use mathlib.Core.Bool.{true, false, true≢false}
-use Prim.Native.Nat.{ℕ, zero, suc, _*_, _^_, _≤_, _<_}
+use Prim.Native.Nat.{ℕ, zero, suc, _*_, _/_, _%_, _^_, _≤_, _<_}
 use native.Mathlib.Nat.{mul-comm, mul-assoc, mul-zero, zero-mul, mul-pos}
 use native.Mathlib.Omega.{arith}
-use lib.Dec.{T, lit<}
+use lib.Dec.{T, eqb, lit<}
+use borrow.Author.Tests.{eqb-false}
 use lib.IntN.{ℤ, pos, negsuc}
-use lib.Ieee.{Float, nan, inf, fin, binary64, mul, div, ofInt, ofBits, fits, up, down, round, le}
+use lib.Ieee.{Float, nan, inf, fin, binary64, mul, div, ofInt, ofBits, fits, up, down, round}
 use lib.Ieee.Fits.{div-fits, down-pos}
 use lib.Ieee.Exact.{HasValue}
 use lib.Ieee.Back.{round-whole}
@@ -16,9 +17,12 @@ use lib.Ieee.Positive.{positive, between}
 use Rattle.cie.specs.declared.GrayClosing.{GrayClosing}
 use Rattle.cie.specs.declared.LabClosing.{LabClosing}
 use Rattle.fixed.specs.Numbers.{float, million, limited}
-use Rattle.cie.specs.Steps.{whole, one, unitsOf, decoded, whiteOf, grayOf, labP, labN, first, second, third, share, cubed}
+use Rattle.fixed.proofs.Decide.{cond-ind}
+use Rattle.cie.specs.Tenths.{decodedTenths}
+use Rattle.cie.specs.Steps.{whole, one, tenthsOf, decodedWhole, decoded, whiteOf, grayOf, labP, labN, first, second, third, share, cubed}
 use Rattle.cie.specs.Closings.{calGrayOf, calLabOf}
 use Rattle.cie.proofs.One.{unit, mul-1}
+use Rattle.cie.proofs.Settled.{settled-white, settled-black}
 
 -- n / d, as floats
 abbrev pub ratio : ℤ → ℕ → Float
@@ -43,19 +47,27 @@ float-fits v = div-fits binary64 (ofInt binary64 v) million
 by-one : (v : ℤ) → mul binary64 (float v) one ≡ float v
 by-one v = ap (mul binary64 (float v)) one-is ∙ mul-1 binary64 (float v) (float-fits v)
 
--- ---- CalGray 1, under every gamma, is the white point
+-- ---- 1 is decoded to exactly 1.0 by every gamma, in units and in tenths, so CalGray 1 is the white point
 
-pub decoded-one : (gamma : ℕ) → decoded unit gamma ≡ unit
+whole-one : (n : ℕ) → decodedWhole unit n ≡ unit
+unfolding decodedWhole
+whole-one zero = refl
+whole-one (suc zero) = refl
+whole-one (suc (suc n)) = ap (λ (x : Float). mul binary64 x unit) (whole-one (suc n)) ∙ mul-1 binary64 unit unit-fits
+
+tenths-one : (p : ℕ) → decodedTenths p (pos 1000000) ≡ one
+unfolding decodedTenths limited div ofInt ofBits
+tenths-one p = simp (settled-white p)
+
+pub decoded-one : (p : ℕ) → decoded p (pos 1000000) ≡ one
 unfolding decoded
-decoded-one zero = refl
-decoded-one (suc zero) = refl
-decoded-one (suc (suc n)) = ap (λ (x : Float). mul binary64 x unit) (decoded-one (suc n)) ∙ mul-1 binary64 unit unit-fits
+decoded-one p =
+    cond-ind (λ (x : Float). x ≡ one) (eqb (p % 10) 0)
+    (λ _. ap (λ (x : Float). decodedWhole x (p / 10)) (one-float ∙ one-is) ∙ (whole-one (p / 10) ∙ sym one-is))
+    (λ _. tenths-one p)
 
 pub gray-white : (k : GrayClosing) → calGrayOf k (pos 1000000) ≡ whiteOf (k .xw) (k .zw)
-gray-white k = ap (grayOf (whiteOf (k .xw) (k .zw))) full ∙ (λ i. record { x = by-one (k .xw) i; y = one; z = by-one (k .zw) i })
-  where
-    full : decoded (float (pos 1000000)) (unitsOf (k .gamma)) ≡ one
-    full = ap (λ (x : Float). decoded x (unitsOf (k .gamma))) (one-float ∙ one-is) ∙ (decoded-one (unitsOf (k .gamma)) ∙ sym one-is)
+gray-white k = ap (grayOf (whiteOf (k .xw) (k .zw))) (decoded-one (tenthsOf (k .gamma))) ∙ (λ i. record { x = by-one (k .xw) i; y = one; z = by-one (k .zw) i })
 
 -- ---- Lab (100, 0, 0) is the white point
 
@@ -144,11 +156,27 @@ nought-twice : mul binary64 nought nought ≡ nought
 unfolding mul
 nought-twice = refl
 
-pub decoded-nought : (gamma : ℕ) → decoded nought gamma ≡ nought
+-- and 0 to 0, by every gamma
+whole-nought : (n : ℕ) → decodedWhole nought n ≡ nought
+unfolding decodedWhole
+whole-nought zero = refl
+whole-nought (suc zero) = refl
+whole-nought (suc (suc n)) = ap (λ (x : Float). mul binary64 x nought) (whole-nought (suc n)) ∙ nought-twice
+
+tenths-nought : (p : ℕ) → 1 ≤ p → decodedTenths p (pos 0) ≡ nought
+unfolding decodedTenths limited div ofInt ofBits
+tenths-nought p h = simp (settled-black p h)
+
+pub decoded-nought : (p : ℕ) → decoded p (pos 0) ≡ nought
 unfolding decoded
-decoded-nought zero = refl
-decoded-nought (suc zero) = refl
-decoded-nought (suc (suc n)) = ap (λ (x : Float). mul binary64 x nought) (decoded-nought (suc n)) ∙ nought-twice
+decoded-nought p =
+    cond-ind (λ (x : Float). x ≡ nought) (eqb (p % 10) 0)
+    (λ _. ap (λ (x : Float). decodedWhole x (p / 10)) float-0 ∙ whole-nought (p / 10))
+    (λ e. tenths-nought p (some p (eqb-false (p % 10) 0 e)))
+  where
+    some : (p : ℕ) → (p % 10 ≡ 0 → ⊥) → 1 ≤ p
+    some zero h = absurd (h refl)
+    some (suc p) h = omega arith
 
 limited-minus-three : limited (pos 0) (pos 1000000) (negsuc 2999999) ≡ pos 0
 unfolding limited
@@ -157,8 +185,8 @@ limited-minus-three = refl
 pub gray-black : (k : GrayClosing) → Above (k .xw) → Above (k .zw) → calGrayOf k (limited (pos 0) (pos 1000000) (negsuc 2999999)) ≡ record { x = nought; y = nought; z = nought }
 gray-black k a b = ap (grayOf (whiteOf (k .xw) (k .zw))) none ∙ (λ i. record { x = by-nought a i; y = nought; z = by-nought b i })
   where
-    none : decoded (float (limited (pos 0) (pos 1000000) (negsuc 2999999))) (unitsOf (k .gamma)) ≡ nought
-    none = ap (λ (z : ℤ). decoded (float z) (unitsOf (k .gamma))) limited-minus-three ∙ (ap (λ (x : Float). decoded x (unitsOf (k .gamma))) float-0 ∙ decoded-nought (unitsOf (k .gamma)))
+    none : decoded (tenthsOf (k .gamma)) (limited (pos 0) (pos 1000000) (negsuc 2999999)) ≡ nought
+    none = ap (decoded (tenthsOf (k .gamma))) limited-minus-three ∙ decoded-nought (tenthsOf (k .gamma))
 
 pub lab-black : (k : LabClosing) → Above (k .xw) → Above (k .zw) → calLabOf k (pos 0) (pos 0) (pos 0) ≡ record { x = nought; y = nought; z = nought }
 lab-black k a b = rw (first-black, second-black, third-black, by-nought a, by-nought b)

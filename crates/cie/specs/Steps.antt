@@ -1,13 +1,15 @@
 -- FORMAT.md, Colour steps, on f64: each operation rounds once, in the order written.
-use Prim.Native.Nat.{ℕ, zero, suc, _/_}
+use Prim.Native.Nat.{ℕ, zero, suc, _/_, _%_, min}
 use mathlib.Core.Bool.{Bool, cond}
 use mathlib.Core.List.{List, [], _∷_}
 use lib.IntN.{ℤ, pos, negsuc, _+ℤ_, _-ℤ_, _*ℤ_}
 use lib.Signed.{leZ}
 use lib.Ieee.{Float, binary64, nan, add, mul, div, ofInt, ofBits}
+use lib.Dec.{eqb}
 use lib.ListN.{getD}
-use Rattle.fixed.specs.Numbers.{float}
+use Rattle.fixed.specs.Numbers.{float, mostTenths}
 use Rattle.cie.specs.declared.Xyz.{Xyz}
+use Rattle.cie.specs.Tenths.{decodedTenths}
 
 -- a whole number as a float: exact below 2⁵³
 abbrev pub whole : ℕ → Float
@@ -19,16 +21,20 @@ one = ofBits binary64 0x3ff0_0000_0000_0000
 
 -- ---- Decode
 
--- the whole units of a gamma in millionths
-unfoldable pub unitsOf : ℤ → ℕ
-unitsOf (pos n) = n / 1000000
-unitsOf (negsuc n) = 0
+-- a gamma in millionths as a count of tenths: none that is carried has more than `mostTenths`
+unfoldable pub tenthsOf : ℤ → ℕ
+tenthsOf (pos n) = min (n / 100000) mostTenths
+tenthsOf (negsuc n) = 0
 
--- a to gamma 1 is a; each further unit multiplies the product so far by a
-unfoldable pub decoded : Float → ℕ → Float
-decoded a zero = a
-decoded a (suc zero) = a
-decoded a (suc (suc n)) = mul binary64 (decoded a (suc n)) a
+-- a whole gamma: a to gamma 1 is a; each further unit multiplies the product so far by a
+unfoldable pub decodedWhole : Float → ℕ → Float
+decodedWhole a zero = a
+decodedWhole a (suc zero) = a
+decodedWhole a (suc (suc n)) = mul binary64 (decodedWhole a (suc n)) a
+
+-- a component in millionths, decoded by a gamma of p tenths: its float by a whole gamma, itself by any other
+unfoldable pub decoded : ℕ → ℤ → Float
+decoded p a = cond (eqb (p % 10) 0) (decodedWhole (float a) (p / 10)) (decodedTenths p a)
 
 -- ---- CalGray
 

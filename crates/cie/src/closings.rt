@@ -14,26 +14,20 @@ use crate::steps::decode;
 use crate::steps::gray;
 use crate::steps::matrix;
 use crate::steps::rgb;
-use crate::steps::units;
 use crate::steps::white;
 use fixed::float_of;
 
 fn close_gray(k: GrayClosing, a: i32) -> Xyz
     ensures { λ r. ⌜ r ≡ calGrayOf k a ⌝ }
 {
-    gray(white(k.xw, k.zw), decode(float_of(a), units(k.gamma)))
+    gray(white(k.xw, k.zw), decode(a, k.gamma))
 }
 
 fn close_rgb(k: RgbClosing, a: i32, b: i32, c: i32) -> Xyz
     ensures { λ r. ⌜ r ≡ calRgbOf k a b c ⌝ }
 {
     let m = matrix(k.xa, k.ya, k.za, k.xb, k.yb, k.zb, k.xc, k.yc, k.zc);
-    rgb(
-        m,
-        decode(float_of(a), units(k.ga)),
-        decode(float_of(b), units(k.gb)),
-        decode(float_of(c), units(k.gc)),
-    )
+    rgb(m, decode(a, k.ga), decode(b, k.gb), decode(c, k.gc))
 }
 
 fn close_lab(k: LabClosing, l: i32, a: i32, b: i32) -> Xyz

@@ -1,7 +1,9 @@
 // From numbers to colours: the steps on f64 (FORMAT.md, Colour steps), each operation rounded once and in that order, and the closing steps that end in an answer.
 mod closings;
 mod lab_step;
+mod limbs;
 mod steps;
+mod tenths;
 
 pub use closings::close;
 pub use lab_step::lab;
@@ -9,7 +11,6 @@ pub use steps::decode;
 pub use steps::gray;
 pub use steps::matrix;
 pub use steps::rgb;
-pub use steps::units;
 pub use steps::white;
 
 // A white point, or a colour's X, Y and Z.

@@ -1,7 +1,11 @@
 // Decode, CalGray and CalRGB.
 ghost use mathlib.Core.Path.{_≡_};
-ghost use Rattle.cie.specs.Steps.{unitsOf, decoded, whiteOf, matrixOf, grayOf, rgbOf};
+ghost use Prim.Native.Nat.{_≤_};
+ghost use Rattle.fixed.specs.Numbers.{mostTenths};
+ghost use Rattle.cie.specs.Steps.{tenthsOf, decodedWhole, decoded, whiteOf, matrixOf, grayOf, rgbOf};
 use crate::Xyz;
+use crate::tenths::decode_tenths;
+use fixed::TENTHS;
 use fixed::float_of;
 
 // The white point of X and Z in millionths, Y being 1.
@@ -36,27 +40,43 @@ pub fn matrix(
     ]
 }
 
-// How many whole units a gamma in millionths has.
-pub fn units(gamma: i32) -> u32
-    ensures { λ r. ⌜ r ≡ unitsOf gamma ⌝ }
+// A gamma in millionths as a count of tenths; none that is carried has more than TENTHS.
+fn tenths(gamma: i32) -> u32
+    ensures is { λ r. ⌜ r ≡ tenthsOf gamma ⌝ }
+    ensures small { λ r. ⌜ r ≤ mostTenths ⌝ }
 {
     if gamma < 0 {
         return 0;
     }
-    (gamma as u32) / 1000000
+    let p = (gamma as u32) / 100000;
+    if TENTHS < p {
+        return TENTHS;
+    }
+    p
 }
 
-// a to the power of gamma units.
-pub fn decode(a: f64, gamma: u32) -> f64
-    ensures { λ r. ⌜ r ≡ decoded a gamma ⌝ }
+// a to the power of a whole gamma.
+fn decode_whole(a: f64, units: u32) -> f64
+    ensures { λ r. ⌜ r ≡ decodedWhole a units ⌝ }
 {
     let mut r = a;
     let mut k: u32 = 1;
-    while k < gamma {
+    while k < units {
         r = r * a;
         k += 1;
     }
     r
+}
+
+// The component a decoded by a gamma, both in millionths. The component is as it stands.
+pub fn decode(a: i32, gamma: i32) -> f64
+    ensures { λ r. ⌜ r ≡ decoded (tenthsOf gamma) a ⌝ }
+{
+    let p = tenths(gamma);
+    if p % 10 == 0 {
+        return decode_whole(float_of(a), p / 10);
+    }
+    decode_tenths(a, p)
 }
 
 // CalGray, of a component that is decoded.

@@ -53,7 +53,7 @@ tintPower x (suc (suc n)) = halfUpℕ (tintPower x (suc n) * x) 1000000
 abbrev pub tintValue : ℤ → ℤ → ℕ → ℤ
 tintValue c₀ c₁ q = partWay 1000000 q c₀ c₁
 
--- ---- FORMAT.md, Sizes and house limits: each gamma and each exponent is whole, 1 to 4
+-- ---- FORMAT.md, Sizes and house limits: each exponent is whole, 1 to 4, and each gamma a whole count of tenths, 0.1 to 4.0
 
 abbrev pub greatest : ℕ
 greatest = 4
@@ -62,7 +62,11 @@ greatest = 4
 abbrev pub exponentSupported : ℕ → Bool
 exponentSupported e = leb 1 e && leb e greatest
 
+-- the greatest gamma, in tenths
+abbrev pub mostTenths : ℕ
+mostTenths = 40
+
 -- a gamma, in millionths
 unfoldable pub gammaSupported : ℤ → Bool
-gammaSupported (pos n) = eqb (n % 1000000) 0 && exponentSupported (n / 1000000)
+gammaSupported (pos n) = eqb (n % 100000) 0 && (leb 1 (n / 100000) && leb (n / 100000) mostTenths)
 gammaSupported (negsuc n) = false

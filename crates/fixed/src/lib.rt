@@ -32,5 +32,8 @@ pub use values::value_at;
 // How many values a colour's steps act on.
 pub const VALUES: usize = 4;
 
+// The greatest gamma, in tenths.
+pub const TENTHS: u32 = 40;
+
 // The most blocks of a page.
 pub const BLOCKS: u32 = 64;

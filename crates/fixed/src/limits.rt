@@ -3,6 +3,7 @@ ghost use mathlib.Core.Path.{_≡_};
 ghost use Prim.Native.Nat.{_≤_};
 ghost use lib.IntN.{pos, natAbs};
 ghost use Rattle.fixed.specs.Numbers.{limited, exponentSupported, gammaSupported};
+use crate::TENTHS;
 
 // The nearest to v in lo..hi.
 pub fn limit(v: i32, lo: i32, hi: i32) -> i32
@@ -31,7 +32,7 @@ pub fn unit_part(v: i32) -> u32
     v as u32
 }
 
-// The greatest gamma and the greatest exponent, in units.
+// The greatest exponent.
 const GREATEST: u32 = 4;
 
 // Whether an exponent is within the house limit.
@@ -41,7 +42,7 @@ pub fn is_exponent(e: u32) -> bool
     (1 <= e) & (e <= GREATEST)
 }
 
-// Whether a gamma, in millionths, is within the house limit.
+// Whether a gamma, in millionths, is a whole count of tenths within the house limit.
 pub fn is_gamma(v: i32) -> bool
     ensures { λ r. ⌜ r ≡ gammaSupported v ⌝ }
 {
@@ -49,5 +50,6 @@ pub fn is_gamma(v: i32) -> bool
         return false;
     }
     let n = v as u32;
-    (n % 1000000 == 0) & is_exponent(n / 1000000)
+    let p = n / 100000;
+    (n % 100000 == 0) & ((1 <= p) & (p <= TENTHS))
 }

@@ -92,7 +92,13 @@ fn spaces() -> Vec<Space> {
         device("RGB", DEVICE_RGB, 3),
         device("CMYK", DEVICE_CMYK, 4),
         space("CalGray, gamma 2", &[cal_gray(0, 2 * ONE)], &[unit]),
+        space("CalGray, gamma 2.2", &[cal_gray(0, 2_200_000)], &[unit]),
         space("CalRGB, gammas 2", &[cal_rgb(0, [2 * ONE; 3])], &[unit; 3]),
+        space(
+            "CalRGB, gammas 2.2",
+            &[cal_rgb(0, [2_200_000; 3])],
+            &[unit; 3],
+        ),
         space("Lab", &[lab(0, USUAL)], &[(0, 100 * ONE), hundred, hundred]),
         space(
             "Indexed over RGB, hival 255",

@@ -1,10 +1,10 @@
 //! Running a recipe in one pass over its words.
 
-use super::{refused, values_of};
+use super::{decode, refused, values_of};
 use reference::cie::Answer;
 use reference::numbers::{limit, ONE};
 use reference::recipe::MOST_WORDS;
-use reference::runner::{close, closing, step, Step};
+use reference::runner::{close, closing, step, Closing, Step};
 
 /// Half-up rounding of n / d, for an n that 64 bits hold with room to spare.
 fn half_up(n: i64, d: i64) -> i64 {
@@ -47,6 +47,18 @@ fn take(step: Step<'_>, values: &mut [i32; 4]) {
     }
 }
 
+/// The answer of a closing step.
+fn closed(closing: &Closing, values: [i32; 4]) -> Answer {
+    let [a, b, c, _] = values;
+    match *closing {
+        Closing::CalGray { xw, zw, gamma } => Answer::Xyz(decode::cal_gray(xw, zw, gamma, a)),
+        Closing::CalRgb { gammas, matrix } => {
+            Answer::Xyz(decode::cal_rgb(gammas, matrix, [a, b, c]))
+        }
+        _ => close(closing, values),
+    }
+}
+
 /// Runs a recipe on a colour. Each step is taken as soon as it is read: nothing comes of it should a later word be
 /// ill-formed or the count of components wrong.
 pub fn run(words: &[i32], colour: &[i32]) -> Answer {
@@ -68,5 +80,5 @@ pub fn run(words: &[i32], colour: &[i32]) -> Answer {
     if colour.len() != *count as usize {
         return refused(9);
     }
-    close(&closing, values)
+    closed(&closing, values)
 }

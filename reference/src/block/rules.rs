@@ -2,7 +2,8 @@
 
 use super::{Body, Record, BLOCK, CHECK_AT, MOST_BLOCKS, NAME, NAME_AT};
 use super::{DEVICE_CMYK, DEVICE_GRAY, DEVICE_RGB};
-use crate::numbers::{house_units, ONE};
+use crate::gamma::tenths;
+use crate::numbers::ONE;
 
 /// Whether all of these bytes are zero.
 fn zero(bytes: &[u8]) -> bool {
@@ -68,9 +69,10 @@ impl Body {
         }
     }
 
-    /// "House limits: each gamma and each exponent is whole, 1 to 4 (the exponent byte counts units)."
+    /// "House limits: ... each exponent is whole, 1 to 4 (the exponent byte counts units)"; a gamma "is a whole count
+    /// p of tenths, 0.1 to 4.0" (document 02, 2026-01).
     fn house_holds(&self) -> bool {
-        let carried = |gamma: &i32| house_units(*gamma).is_some();
+        let carried = |gamma: &i32| tenths(*gamma).is_some();
         match self {
             Body::CalGray { gamma, .. } => carried(gamma),
             Body::CalRgb { gammas, .. } => gammas.iter().all(carried),

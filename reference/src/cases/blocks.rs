@@ -151,7 +151,8 @@ fn points(maker: &mut Maker) {
 /// Gammas on either side of the house limit.
 fn gammas(maker: &mut Maker) {
     maker.both("CalGray gamma 4 is fine", &cal_gray(0, 4 * ONE));
-    maker.both("CalGray gamma 1.8 gives 5", &cal_gray(0, 1_800_000));
+    maker.both("CalGray gamma 1.8 is fine", &cal_gray(0, 1_800_000));
+    maker.both("CalGray gamma 1.85 gives 5", &cal_gray(0, 1_850_000));
     maker.both("CalGray gamma 0 gives 4", &cal_gray(0, 0));
     maker.both("CalRGB gamma 0 gives 5", &cal_rgb(0, [0; 3]));
     for v in [1, ONE - 1, ONE + 1, 2 * ONE, 3 * ONE, 4 * ONE + 1, 5 * ONE] {
@@ -160,6 +161,7 @@ fn gammas(maker: &mut Maker) {
     for v in [-1, -ONE, 4] {
         maker.both(&format!("CalGray gamma {}", decimal(v)), &cal_gray(0, v));
     }
+    tenths(maker);
     for v in ENDS {
         maker.both(&format!("CalGray gamma {}", decimal(v)), &cal_gray(0, v));
         maker.both(
@@ -170,7 +172,7 @@ fn gammas(maker: &mut Maker) {
     maker.both("CalRGB gammas 1 2 3", &cal_rgb(0, [ONE, 2 * ONE, 3 * ONE]));
     maker.both("CalRGB gammas 4 4 4", &cal_rgb(0, [4 * ONE; 3]));
     for (place, which) in ["first", "second", "third"].into_iter().enumerate() {
-        for v in [0, -ONE, 1_800_000, ONE + 1, 5 * ONE] {
+        for v in [0, -ONE, -1_800_000, 1_800_000, 1_850_000, ONE + 1, 5 * ONE] {
             let mut gammas = [ONE; 3];
             gammas[place] = v;
             let label = format!("CalRGB {which} gamma {}", decimal(v));
@@ -182,6 +184,22 @@ fn gammas(maker: &mut Maker) {
         *matrix = [i32::MIN, i32::MAX, 0, -1, 1, -ONE, ONE, i32::MIN, i32::MAX];
     }
     maker.both("CalRGB matrix numbers of every sign", &any_matrix);
+}
+
+/// Gammas in tenths, and about them.
+fn tenths(maker: &mut Maker) {
+    let carried = [100_000, 500_000, 2_200_000, 3_900_000];
+    let between = [50_000, 99_999, 100_001, 150_000, 3_999_999];
+    let beyond = [4_050_000, 4_100_000, 18, -100_000];
+    for v in [&carried[..], &between, &beyond].concat() {
+        maker.both(&format!("CalGray gamma {}", decimal(v)), &cal_gray(0, v));
+        maker.both(
+            &format!("CalRGB gammas {}", decimal(v)),
+            &cal_rgb(0, [v; 3]),
+        );
+    }
+    let mixed = cal_rgb(0, [1_800_000, 2 * ONE, 2_200_000]);
+    maker.both("CalRGB gammas 1.8 2 2.2", &mixed);
 }
 
 /// Lab ranges and Indexed hivals.
@@ -321,12 +339,12 @@ fn orders(maker: &mut Maker) {
     let [x, _, z] = WHITE;
     let [(_, mut gray), (_, mut rgb), _] = with_points([x, 0, z], [0; 3]);
     if let Body::CalGray { gamma, .. } = &mut gray.body {
-        *gamma = 1_800_000;
+        *gamma = 1_850_000;
     }
     if let Body::CalRgb { gammas, .. } = &mut rgb.body {
         *gammas = [0; 3];
     }
-    maker.both("white Y 0 and CalGray gamma 1.8, 4 before 5", &gray);
+    maker.both("white Y 0 and CalGray gamma 1.85, 4 before 5", &gray);
     maker.both("white Y 0 and CalRGB gammas 0, 4 before 5", &rgb);
     maker.both("hival 256 and base 64, 4 before 6", &indexed(0, 64, 256));
     maker.both("own number 64 and base 64, 3 before 6", &indexed(64, 64, 0));

@@ -19,6 +19,7 @@ pub(super) fn cases() -> Vec<Case> {
     devices(&mut maker);
     cal_grays(&mut maker);
     cal_rgbs(&mut maker);
+    tenths(&mut maker);
     labs(&mut maker);
     indices(&mut maker);
     palettes(&mut maker);
@@ -97,6 +98,48 @@ fn cal_rgbs(maker: &mut Maker) {
     maker.colour("CalRGB with a negative zero", &signed, 0, &[0; 3]);
     let colour = [i32::MIN, HALF, ONE];
     maker.colour("CalRGB with entries below 0", &signed, 0, &colour);
+}
+
+/// CalGray and CalRGB with gammas in tenths, by themselves and within other spaces.
+fn tenths(maker: &mut Maker) {
+    for gamma in [100_000, 1_800_000, 2_200_000, 3_900_000] {
+        let page = page(&[cal_gray(0, gamma)]);
+        for v in [-3 * ONE, 0, 49, 50, HALF, 999_950, ONE, ONE + 1] {
+            let label = format!("CalGray {} with gamma {}", decimal(v), decimal(gamma));
+            maker.colour(&label, &page, 0, &[v]);
+        }
+    }
+    let curved = cal_rgb(0, [1_800_000, 2 * ONE, 2_200_000]);
+    let rgb = page(&[curved]);
+    for (label, colour) in [
+        ("0.9 0.8 0.7", [900_000, 800_000, 700_000]),
+        ("all at 1", [ONE; 3]),
+        ("beyond the ends", [-1, i32::MAX, i32::MIN]),
+        ("0.00005 in each", [50; 3]),
+    ] {
+        maker.colour(
+            &format!("CalRGB gammas 1.8 2 2.2, {label}"),
+            &rgb,
+            0,
+            &colour,
+        );
+    }
+    let rows = [0xb5, 0, 0xff, 0x33, 0x80, 1];
+    let mut indexed = indexed_run(0, 2, 1, &rows);
+    indexed.push(cal_rgb(2, [2_200_000, 100_000, ONE]));
+    let mut nested = indexed_run(0, 2, 1, &rows[3..5]);
+    nested.push(separation(2, 3, 2, [0; 4], [ONE, 0, 0, 0]));
+    nested.push(cal_gray(3, 1_800_000));
+    for row in 0..2 {
+        let label = format!("Indexed over CalRGB gammas 2.2 0.1 1, row {row}");
+        maker.colour(&label, &page(&indexed), 0, &[row * ONE]);
+        let label = format!("Indexed over Separation over CalGray 1.8, row {row}");
+        maker.colour(&label, &page(&nested), 0, &[row * ONE]);
+    }
+    for v in [0, 333_333, ONE] {
+        let label = format!("Separation over CalGray 1.8, tint {}", decimal(v));
+        maker.colour(&label, &page(&nested), 2, &[v]);
+    }
 }
 
 /// Lab.

@@ -2,8 +2,9 @@
 
 use super::format::{answer_text, dotted, float_text, hex_of, numbers_of, Case};
 use crate::block::{read_block, write_block, Body, Record, BLOCK, BODY, NAME};
-use crate::cie::{cal_gray, cal_rgb, decode, lab, Answer};
+use crate::cie::{cal_gray, cal_rgb, lab, Answer};
 use crate::colour::evaluate;
+use crate::gamma::{decode, tenths};
 use crate::listing::list;
 use crate::numbers::{
     float_of, index, limit, palette_value, read_four, read_two, tint_power, tint_value,
@@ -30,14 +31,14 @@ impl Case {
             (7, [], Some(bytes)) => read_two(bytes, 0).to_string(),
             (8, [], Some(bytes)) => read_four(bytes, 0).to_string(),
             (9, &[v], None) => hex_of(&v.to_be_bytes()),
-            (10, &[v, units], None) => float_text(decode(float_of(v), small(units)?)),
-            (11, &[xw, zw, units, v], None) => {
-                answer_text(&Answer::Xyz(cal_gray(xw, zw, small(units)?, v)))
+            (10, &[v, gamma], None) => float_text(decode(v, tenths(gamma)?)),
+            (11, &[xw, zw, gamma, v], None) => {
+                answer_text(&Answer::Xyz(cal_gray(xw, zw, tenths(gamma)?, v)))
             }
             (12, &[g1, g2, g3, m1, m2, m3, m4, m5, m6, m7, m8, m9, a, b, c], None) => {
-                let units = [small(g1)?, small(g2)?, small(g3)?];
+                let gammas = [tenths(g1)?, tenths(g2)?, tenths(g3)?];
                 let matrix = [m1, m2, m3, m4, m5, m6, m7, m8, m9];
-                answer_text(&Answer::Xyz(cal_rgb(units, matrix, [a, b, c])))
+                answer_text(&Answer::Xyz(cal_rgb(gammas, matrix, [a, b, c])))
             }
             (13, &[xw, zw, l, a, b], None) => answer_text(&Answer::Xyz(lab(xw, zw, l, a, b))),
             (20, [], Some(block)) => read_text(block),

@@ -1,7 +1,8 @@
 //! The tables of cases on numbers and single steps: operations 1 to 13.
 
-use super::format::Case;
+use super::format::{decimal, Case};
 use super::maker::Maker;
+use crate::numbers::ONE;
 use crate::records::NINE;
 
 /// The white point of the paper's examples, X and Z: 0.9505 and 1.089.
@@ -136,29 +137,53 @@ const PLAIN: &[(&str, u32, &[i32])] = &[
     ("the bytes of 1000000", 9, &[1_000_000]),
     ("the bytes of -1", 9, &[-1]),
     ("the bytes of the least number", 9, &[i32::MIN]),
-    // Decode.
-    ("0.7 decoded by gamma 1", 10, &[700_000, 1]),
-    ("0.7 decoded by gamma 2", 10, &[700_000, 2]),
-    ("0.7 decoded by gamma 3", 10, &[700_000, 3]),
-    ("0.7 decoded by gamma 4", 10, &[700_000, 4]),
-    ("-0.3 decoded by gamma 3", 10, &[-300_000, 3]),
+    // Decode by whole gammas; those of tenths stand below.
+    ("0.7 decoded by gamma 1", 10, &[700_000, ONE]),
+    ("0.7 decoded by gamma 2", 10, &[700_000, 2 * ONE]),
+    ("0.7 decoded by gamma 3", 10, &[700_000, 3 * ONE]),
+    ("0.7 decoded by gamma 4", 10, &[700_000, 4 * ONE]),
+    ("-0.3 decoded by gamma 3", 10, &[-300_000, 3 * ONE]),
     // CalGray.
     (
         "CalGray colour 1 gives the white point's floats",
         11,
-        &[XW, ZW, 1, 1_000_000],
+        &[XW, ZW, ONE, 1_000_000],
     ),
-    ("CalGray colour 0 gives zeros", 11, &[XW, ZW, 1, 0]),
-    ("CalGray colour 0.3, gamma 4", 11, &[XW, ZW, 4, 300_000]),
+    ("CalGray colour 0 gives zeros", 11, &[XW, ZW, ONE, 0]),
+    (
+        "CalGray colour 0.3, gamma 4",
+        11,
+        &[XW, ZW, 4 * ONE, 300_000],
+    ),
     (
         "CalGray colour -3 as it stands, gamma 3",
         11,
-        &[XW, ZW, 3, -3_000_000],
+        &[XW, ZW, 3 * ONE, -3_000_000],
     ),
     (
         "CalGray negative zero by a white point below 0",
         11,
-        &[-1, -1, 1, 0],
+        &[-1, -1, ONE, 0],
+    ),
+    (
+        "CalGray colour 1, gamma 1.8, gives the white point's floats",
+        11,
+        &[XW, ZW, 1_800_000, ONE],
+    ),
+    (
+        "CalGray colour 0.5, gamma 2.2",
+        11,
+        &[XW, ZW, 2_200_000, 500_000],
+    ),
+    (
+        "CalGray colour -3 as it stands, gamma 2.2, zeros",
+        11,
+        &[XW, ZW, 2_200_000, -3_000_000],
+    ),
+    (
+        "CalGray negative zero by a white point below 0, gamma 0.1",
+        11,
+        &[-1, -1, 100_000, 49],
     ),
     // Lab.
     (
@@ -233,53 +258,53 @@ const BYTES: &[(&str, u32, &[u8])] = &[
 /// A CalRGB case: a label, three gammas, a matrix and three components.
 type CalRgbCase = (&'static str, [i32; 3], [i32; 9], [i32; 3]);
 
-/// The CalRGB cases: a label, three gammas in units, the matrix and the three components.
+/// The CalRGB cases: a label, three gammas in millionths, the matrix and the three components.
 const CAL_RGB: &[CalRgbCase] = &[
     (
         "CalRGB the first three matrix numbers belong to A",
-        [1, 1, 1],
+        [ONE; 3],
         NINE,
         [1_000_000, 0, 0],
     ),
     (
         "CalRGB the second three belong to B",
-        [1, 1, 1],
+        [ONE; 3],
         NINE,
         [0, 1_000_000, 0],
     ),
     (
         "CalRGB the last three belong to C",
-        [1, 1, 1],
+        [ONE; 3],
         NINE,
         [0, 0, 1_000_000],
     ),
     (
         "CalRGB 0.1 0.2 0.3, gammas 1 2 3",
-        [1, 2, 3],
+        [ONE, 2 * ONE, 3 * ONE],
         NINE,
         [100_000, 200_000, 300_000],
     ),
     (
         "CalRGB 0.9 0.8 0.7, gammas 4 3 2",
-        [4, 3, 2],
+        [4 * ONE, 3 * ONE, 2 * ONE],
         NINE,
         [900_000, 800_000, 700_000],
     ),
     (
         "CalRGB negative zero by entries below 0",
-        [1, 1, 1],
+        [ONE; 3],
         [-1; 9],
         [0; 3],
     ),
     (
         "CalRGB one negative zero of three",
-        [2, 3, 4],
+        [2 * ONE, 3 * ONE, 4 * ONE],
         [-1_000_000, 0, 0, -1_000_000, 0, 0, -1_000_000, 0, 0],
         [0; 3],
     ),
     (
         "CalRGB extremes as they stand",
-        [4, 3, 2],
+        [4 * ONE, 3 * ONE, 2 * ONE],
         [
             i32::MAX,
             i32::MIN,
@@ -293,7 +318,62 @@ const CAL_RGB: &[CalRgbCase] = &[
         ],
         [i32::MIN, i32::MAX, -1],
     ),
+    (
+        "CalRGB 0.9 0.8 0.7, gammas 1.8 2.2 0.1",
+        [1_800_000, 2_200_000, 100_000],
+        NINE,
+        [900_000, 800_000, 700_000],
+    ),
+    (
+        "CalRGB 0.9 0.8 0.7, gammas 2 2.5 3.9",
+        [2 * ONE, 2_500_000, 3_900_000],
+        NINE,
+        [900_000, 800_000, 700_000],
+    ),
+    (
+        "CalRGB extremes as they stand, gammas 0.5 3 1.5",
+        [500_000, 3 * ONE, 1_500_000],
+        NINE,
+        [i32::MIN, i32::MAX, i32::MAX],
+    ),
 ];
+
+/// Components on either side of a line for gammas that are not whole: the ends of 0..1, and where (a + 50) / 100 turns.
+const SIDES: [i32; 17] = [
+    i32::MIN,
+    -50,
+    -1,
+    0,
+    49,
+    50,
+    149,
+    150,
+    10_000,
+    250_000,
+    500_000,
+    777_777,
+    999_949,
+    999_950,
+    ONE,
+    ONE + 1,
+    i32::MAX,
+];
+
+/// Decode by gammas that are not whole.
+fn tenths(maker: &mut Maker) {
+    for gamma in [100_000, 500_000, 1_800_000, 2_200_000, 2_500_000, 3_900_000] {
+        for v in SIDES {
+            let label = format!("{} decoded by gamma {}", decimal(v), decimal(gamma));
+            maker.add(10, label, &[v, gamma], None);
+        }
+    }
+    // Every gamma that is carried, at a component of its own.
+    for p in 1..=40 {
+        let (v, gamma) = (123_457 * p % ONE, 100_000 * p);
+        let label = format!("gamma {} of {}", decimal(gamma), decimal(v));
+        maker.add(10, label, &[v, gamma], None);
+    }
+}
 
 /// The cases of operations 1 to 13, in the order in which they are put to the program.
 pub(super) fn cases() -> Vec<Case> {
@@ -304,6 +384,7 @@ pub(super) fn cases() -> Vec<Case> {
     for (label, op, bytes) in BYTES {
         maker.add(*op, *label, &[], Some(bytes));
     }
+    tenths(&mut maker);
     for (label, gammas, matrix, abc) in CAL_RGB {
         maker.add(12, *label, &[&gammas[..], matrix, abc].concat(), None);
     }

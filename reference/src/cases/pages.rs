@@ -23,7 +23,7 @@ fn with_fault(page: Vec<u8>, number: usize, refusal: u32) -> Vec<u8> {
     let at = number as u16;
     let record = match refusal {
         4 => cal_gray(at, 0),
-        5 => cal_gray(at, 1_800_000),
+        5 => cal_gray(at, 1_850_000),
         6 => plain_separation(at, 0xff02),
         7 => palette(at, &[]),
         _ => free(at),
@@ -109,7 +109,7 @@ fn in_one_block(maker: &mut Maker) {
     let mut both = all_free(2);
     both[BLOCK + 1] = 1;
     maker.validate("2 before 3 in one block", &both);
-    let mut gray = cal_gray(0, 1_800_000);
+    let mut gray = cal_gray(0, 1_850_000);
     if let Body::CalGray { black, .. } = &mut gray.body {
         black[2] = -1;
     }
@@ -167,7 +167,7 @@ fn references(maker: &mut Maker) {
         records[1] = free(1);
         maker.validate(&format!("Separation over {name}"), &page(&records));
     }
-    let faulty = [plain_separation(0, 1), cal_gray(1, 1_800_000)];
+    let faulty = [plain_separation(0, 1), cal_gray(1, 1_850_000)];
     maker.validate("a reference to a block that is faulty", &page(&faulty));
     let faulty = [indexed(0, 2, 0), palette(1, &[]), indexed(2, 0, 256)];
     maker.validate("a reference to an Indexed that is faulty", &page(&faulty));
@@ -333,6 +333,26 @@ fn limits(maker: &mut Maker) {
     maker.validate("Lab bmin > bmax", &page(&[lab(0, [0, 1, 6, 5])]));
     let third = [ONE, ONE, 5 * ONE];
     maker.validate("the third gamma 5 gives 5", &page(&[cal_rgb(0, third)]));
+    for (label, gammas) in [
+        ("gammas 1.8 2 2.2 are fine", [1_800_000, 2 * ONE, 2_200_000]),
+        ("gammas 0.1 3.9 4 are fine", [100_000, 3_900_000, 4 * ONE]),
+        ("the first gamma 1.85 gives 5", [1_850_000, ONE, ONE]),
+        ("the second gamma 0.05 gives 5", [ONE, 50_000, ONE]),
+        ("the third gamma 4.1 gives 5", [ONE, ONE, 4_100_000]),
+        ("the third gamma -0.1 gives 5", [ONE, ONE, -100_000]),
+    ] {
+        maker.validate(label, &page(&[cal_rgb(0, gammas)]));
+    }
+    for (label, gamma) in [
+        ("CalGray's gamma 0.1 is fine", 100_000),
+        ("CalGray's gamma 2.2 is fine", 2_200_000),
+        ("CalGray's gamma 0.05 gives 5", 50_000),
+        ("CalGray's gamma 0.1 and a millionth gives 5", 100_001),
+        ("CalGray's gamma 4.1 gives 5", 4_100_000),
+        ("CalGray's gamma -0.1 gives 4", -100_000),
+    ] {
+        maker.validate(label, &page(&[cal_gray(0, gamma)]));
+    }
     let own = |number: u16| {
         let mut records: Vec<Record> = (0..3).map(free).collect();
         records[1] = free(number);

@@ -80,7 +80,8 @@ fn limits(maker: &mut Maker) {
     });
     maker.validate_and_list("hival 256 over CMYK gives 4", &more);
     maker.validate("Gamma 4 is fine", &page(&[cal_gray(0, 4 * ONE)]));
-    maker.validate("Gamma 1.8 gives 5", &page(&[cal_gray(0, 1_800_000)]));
+    maker.validate("Gamma 1.8 is fine", &page(&[cal_gray(0, 1_800_000)]));
+    maker.validate("Gamma 1.85 gives 5", &page(&[cal_gray(0, 1_850_000)]));
     maker.validate("Gamma of CalGray 0 gives 4", &page(&[cal_gray(0, 0)]));
     maker.validate("Gamma of CalRGB 0 gives 5", &page(&[cal_rgb(0, [0; 3])]));
     maker.validate("64 blocks are judged", &all_free(64));

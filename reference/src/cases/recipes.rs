@@ -18,6 +18,7 @@ pub(super) fn cases() -> Vec<Case> {
 /// Recipes of every family into room that is short, right and long.
 fn recipes(maker: &mut Maker) {
     let cal = [ONE, 2 * ONE, 3 * ONE];
+    let scanned = [1_800_000, 2 * ONE, 100_000];
     let range = [-7, 8, -9, 10];
     let gold = |number| separation(number, number + 1, 4, [1, 2, 3, 0], [4, 5, 6, 0]);
     let ink = separation(0, DEVICE_CMYK, 1, [1, 2, 3, 4], [5, 6, 7, 8]);
@@ -34,6 +35,8 @@ fn recipes(maker: &mut Maker) {
         ("CMYK 18", &[free(0)], CMYK, 18),
         ("CalGray 9", &[cal_gray(0, 2 * ONE)], 0, 9),
         ("CalRGB 26", &[cal_rgb(0, cal)], 0, 26),
+        ("CalGray 9, gamma 2.2", &[cal_gray(0, 2_200_000)], 0, 9),
+        ("CalRGB 26, gammas 1.8 2 0.1", &[cal_rgb(0, scanned)], 0, 26),
         ("Lab 16", &[lab(0, range)], 0, 16),
         (
             "Separation over Lab 16 + 9",

@@ -115,6 +115,26 @@ fn least_runs(maker: &mut Maker) {
             &[-3 * ONE],
         ),
         (
+            "CalGray closing, gamma 1.8, past 0",
+            vec![1, 7, WHITE[0], WHITE[2], 1_800_000],
+            &[-3 * ONE],
+        ),
+        (
+            "CalGray closing, gamma 1.8, past 1",
+            vec![1, 7, WHITE[0], WHITE[2], 1_800_000],
+            &[i32::MAX],
+        ),
+        (
+            "CalGray closing, gamma 0.1, white 0 and below",
+            vec![1, 7, -1, 0, 100_000],
+            &[49],
+        ),
+        (
+            "CalGray closing, gamma 3.9, one component of two",
+            vec![2, 7, i32::MIN, i32::MAX, 3_900_000],
+            &[HALF, ONE],
+        ),
+        (
             "CalGray closing, white ends",
             vec![1, 7, i32::MIN, i32::MAX, 3 * ONE],
             &[i32::MIN],
@@ -123,6 +143,21 @@ fn least_runs(maker: &mut Maker) {
             "CalRGB closing, values as they stand",
             [&[3, 8, ONE, 2 * ONE, 3 * ONE][..], &NINE].concat(),
             &[-ONE, i32::MAX, i32::MIN],
+        ),
+        (
+            "CalRGB closing, gammas 1.8 2 2.2, values as they stand",
+            [&[3, 8, 1_800_000, 2 * ONE, 2_200_000][..], &NINE].concat(),
+            &[-ONE, i32::MAX, i32::MAX],
+        ),
+        (
+            "CalRGB closing, gammas 0.1 3.9 0.5, one component",
+            [&[1, 8, 100_000, 3_900_000, 500_000][..], &NINE].concat(),
+            &[50],
+        ),
+        (
+            "a limit, then CalGray closing, gamma 2.2",
+            vec![1, 1, 0, 250_000, 750_000, 7, WHITE[0], WHITE[2], 2_200_000],
+            &[ONE],
         ),
         (
             "CalRGB closing, gammas 4, one component",
@@ -253,8 +288,17 @@ fn ill_formed(maker: &mut Maker) {
             vec![1, 7, 0, 0, 1],
         ),
         (
-            "CalGray closing with gamma 1.8",
-            vec![1, 7, 0, 0, 1_800_000],
+            "CalGray closing with gamma 1.85",
+            vec![1, 7, 0, 0, 1_850_000],
+        ),
+        ("CalGray closing with gamma 0.05", vec![1, 7, 0, 0, 50_000]),
+        (
+            "CalGray closing with gamma 4.1",
+            vec![1, 7, 0, 0, 4_100_000],
+        ),
+        (
+            "CalGray closing with gamma -0.1",
+            vec![1, 7, 0, 0, -100_000],
         ),
         ("CalGray closing with gamma 5", vec![1, 7, 0, 0, 5 * ONE]),
         ("CalGray closing with gamma -1", vec![1, 7, 0, 0, -ONE]),
@@ -266,6 +310,18 @@ fn ill_formed(maker: &mut Maker) {
         (
             "CalRGB closing with a second gamma 0",
             matrix([ONE, 0, ONE], &nine),
+        ),
+        (
+            "CalRGB closing with a first gamma 1.85",
+            matrix([1_850_000, ONE, ONE], &nine),
+        ),
+        (
+            "CalRGB closing with a second gamma 4.1",
+            matrix([ONE, 4_100_000, ONE], &nine),
+        ),
+        (
+            "CalRGB closing with a third gamma 0.1 and a millionth",
+            matrix([ONE, ONE, 100_001], &nine),
         ),
         (
             "CalRGB closing with a third gamma 5",

@@ -176,7 +176,14 @@ fn gamma(v: &mut Victim<'_>) {
     } else {
         0
     };
-    let near = [ONE - 1, 1_800_000, 5 * ONE, -ONE];
+    let near = [
+        ONE - 1,
+        1_850_000,
+        4_100_000,
+        5 * ONE,
+        -ONE,
+        v.rng.near_gamma(),
+    ];
     let far = [0, -1, 1, i32::MIN, i32::MAX];
     let gamma = v.rng.pick(&[&near[..], &far].concat(), 0);
     v.four_repaired(at, 28 + 4 * which, gamma);

@@ -77,9 +77,10 @@ pub fn long_recipe(rng: &mut Rng, length: usize) -> Vec<i32> {
 /// A changed word may leave a recipe that is still well-formed.
 pub fn damage_recipe(rng: &mut Rng, words: &mut Vec<i32>) {
     let at = rng.below(words.len());
-    let word = match rng.below(3) {
+    let word = match rng.below(4) {
         0 => rng.number(),
         1 => rng.between(-1, 10),
+        2 => rng.near_gamma(),
         _ => rng.gamma() + rng.between(-1, 1),
     };
     match rng.below(5) {

@@ -68,9 +68,18 @@ impl Rng {
         }
     }
 
-    /// A gamma within the house limit, in millionths.
+    /// A gamma that is carried, in millionths: a whole one, or any count of tenths.
     pub(super) fn gamma(&mut self) -> i32 {
-        self.between(1, 4) * ONE
+        if self.once_in(2) {
+            self.between(1, 4) * ONE
+        } else {
+            self.between(1, 40) * (ONE / 10)
+        }
+    }
+
+    /// A gamma near those that are carried, in millionths: a count of twentieths, below 0 and above 4 too.
+    pub fn near_gamma(&mut self) -> i32 {
+        self.between(-3, 90) * (ONE / 20)
     }
 
     /// A byte, zero and the ends more often than the others.

@@ -1,46 +1,53 @@
--- The loop multiplies once for each further unit.
-use Prim.Native.Nat.{ℕ, zero, suc, _+_, _≤_, _-_}
-use native.Mathlib.Nat.{not-suc-le-zero}
-use lib.Ieee.{Float, binary64, mul}
-use native.Mathlib.Omega.{arith}
-use native.Mathlib.Numerals.{add-one}
-use mathlib.Core.Path.{_≡_, refl, sym, _∙_}
-use Rattle.cie.specs.Steps.{decoded}
+-- A whole gamma takes the first way of `decoded`, and any other the second.
+use mathlib.Core.Path.{_≡_, refl, ap, _∙_}
+use Prim.Native.Nat.{ℕ, _/_, _%_}
+use lib.IntN.{ℤ}
+use lib.Ieee.{Float}
+use borrow.Author.Needs.{needs}
+use Rattle.fixed.specs.Numbers.{float}
+use Rattle.fixed.proofs.Signs.{back! }
+use Rattle.fixed.proofs.Decide.{eq-yes, eq-no}
+use Rattle.cie.specs.Tenths.{decodedTenths}
+use Rattle.cie.specs.Steps.{tenthsOf, decodedWhole, decoded}
 use Rattle.cie.proofs.steps.decode.Statement.{statement}
 use Rattle.cie.proofs.steps.decode.Tie as tie
 
-one-more : (a : Float) (k : ℕ) → 1 ≤ k → decoded a (k + 1) ≡ mul binary64 (decoded a k) a
+by-whole : (p : ℕ) (a : ℤ) (r : Float) → p % 10 ≡ 0 → r ≡ decodedWhole (float a) (p / 10) → r ≡ decoded p a
 unfolding decoded
-one-more a zero h = absurd (not-suc-le-zero h)
-one-more a (suc k) h = rw (add-one (suc k))
+by-whole p a r h e = eq-yes (p % 10) 0 _ _ r refl h e
 
-at-end : (a r : Float) (gamma k : ℕ) → 1 ≤ k → gamma ≤ k → k ≤ (gamma - 1) + 1 → r ≡ decoded a k → r ≡ decoded a gamma
+by-tenths : (p : ℕ) (a : ℤ) (r : Float) → (p % 10 ≡ 0 → ⊥) → r ≡ decodedTenths p a → r ≡ decoded p a
 unfolding decoded
-at-end a r zero k h l m p = let z : k ≡ 1 = omega arith in p ∙ rw z
-at-end a r (suc n) k h l m p = let z : k ≡ suc n = omega arith in p ∙ rw z
+by-tenths p a r h e = eq-no (p % 10) 0 _ _ r refl h e
 
-abbrev Inv-loop : tie.InvT-loop
-Inv-loop a gamma r₀ k₀ r k = (1 ≤ k) × (k ≤ (gamma - 1) + 1) × (r ≡ decoded a k)
+tenths-requires : tie.Need-tenths-requires
+tenths-requires c κs = search needs
 
-abbrev μ-loop : tie.MeasureT-loop
-μ-loop a gamma r₀ k₀ r k = gamma - k
+float-of-requires : tie.Need-float-of-requires
+float-of-requires c κs = search needs
 
-loop-holds : tie.Need-loop-holds Inv-loop μ-loop
-unfolding decoded
-loop-holds c = (omega arith, omega arith, refl)
+decode-whole-requires : tie.Need-decode-whole-requires
+decode-whole-requires c κs = search needs
 
-add-k : tie.Need-add-k Inv-loop μ-loop
-add-k c = omega arith
+returns : tie.Need-returns
+returns c =
+    let n = c .before .before .before in
+    let s = n .before in
+    let d = c .decode-whole .ensures ∙ (λ i. decodedWhole ((c .before .float-of .ensures ∙ ap float (back! (s .fits .a))) i) (n .tenths .result / 10)) in
+    by-whole (n .tenths .result) (s .args .a) (c .decode-whole .result) (c .before .before .if1 .taken) d
+    ∙ (λ i. decoded ((n .tenths .ensures .0 ∙ ap tenthsOf (back! (s .fits .gamma))) i) (s .args .a))
 
-loop-less : tie.Need-loop-less Inv-loop μ-loop
-loop-less c = omega arith
+decode-tenths-requires : tie.Need-decode-tenths-requires
+decode-tenths-requires c κs = search needs
 
-loop-again : tie.Need-loop-again Inv-loop μ-loop
-loop-again c = (omega arith, omega arith, rw (c .before .loop .inv .2) (sym (one-more _ _ (c .before .loop .inv .0))))
-
-returns : tie.Need-returns Inv-loop μ-loop
-returns c = let v = c .before .loop .inv in at-end _ _ _ _ (v .0) (c .loop-test .left) (v .1) (v .2)
+returns-2 : tie.Need-returns-2
+returns-2 c =
+    let n = c .before .before in
+    let s = n .before in
+    by-tenths (n .tenths .result) (s .args .a) (c .decode-tenths .result) (c .before .if1 .left)
+    (c .decode-tenths .ensures ∙ ap (decodedTenths (n .tenths .result)) (back! (s .fits .a)))
+    ∙ (λ i. decoded ((n .tenths .ensures .0 ∙ ap tenthsOf (back! (s .fits .gamma))) i) (s .args .a))
 
 pub decode-spec : {M : Type 1} → statement M
 decode-spec =
-    tie.close (tie.spec Inv-loop μ-loop loop-holds add-k loop-less loop-again returns)
+    tie.close (tie.spec tenths-requires float-of-requires decode-whole-requires returns decode-tenths-requires returns-2)
