@@ -9,6 +9,8 @@ pub mod Powers
 pub mod Stores
 pub mod Decide
 pub mod Scans
+pub mod Tables
+pub mod OverOne
 pub mod Totals
 pub mod Listed
 pub mod Trips

@@ -5,6 +5,7 @@ mod codes;
 mod float;
 mod limits;
 mod rounding;
+mod table;
 mod values;
 
 pub use bytes::byte;

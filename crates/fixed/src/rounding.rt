@@ -5,6 +5,7 @@ ghost use mathlib.Core.Path.{_≡_};
 ghost use lib.IntN.{pos, subℕ};
 ghost use Prim.Native.Nat.{_<_, _≤_, _^_};
 ghost use Rattle.fixed.specs.Numbers.{partWay, paletteValue, tintPower, tintValue, roundIndex};
+use crate::table::OVER_ONE;
 
 // v + 2^31.
 pub fn raised(v: i32) -> u64
@@ -32,11 +33,24 @@ pub fn part_way(x: i32, y: i32, q: u64, d: u64) -> i32
     lowered((2 * n + d) / (2 * d))
 }
 
-// The value of a palette byte b in the range lo..hi.
+// The value of a palette byte b in the range 0..1, without a division.
+fn unit_value(b: u32) -> i32
+    requires { ⌜ b ≤ 255 ⌝ }
+    ensures { λ r. ⌜ r ≡ paletteValue b (pos 0) (pos 1000000) ⌝ }
+{
+    OVER_ONE[b as usize] as i32
+}
+
+// The value of a palette byte b in the range lo..hi: nearly every palette is over 0..1.
 pub fn palette_value(b: u32, lo: i32, hi: i32) -> i32
     requires { ⌜ b ≤ 255 ⌝ }
     ensures { λ r. ⌜ r ≡ paletteValue b lo hi ⌝ }
 {
+    if lo == 0 {
+        if hi == 1000000 {
+            return unit_value(b);
+        }
+    }
     part_way(lo, hi, b as u64, 255)
 }
 
