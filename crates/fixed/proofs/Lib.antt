@@ -9,6 +9,7 @@ pub mod Powers
 pub mod Stores
 pub mod Decide
 pub mod Scans
+pub mod Nearest
 pub mod Tables
 pub mod OverOne
 pub mod Totals

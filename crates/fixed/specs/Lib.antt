@@ -1,4 +1,5 @@
 pub mod Numbers
+pub mod Nearest
 pub mod Bytes
 pub mod Values
 pub mod Loops

@@ -35,9 +35,9 @@ halfUpℕ n d = (2 * n + d) / (2 * d)
 unfoldable pub partWay : ℕ → ℕ → ℤ → ℤ → ℤ
 partWay d q x y = halfUp (pos d *ℤ x +ℤ pos q *ℤ (y -ℤ x)) d
 
--- a palette byte v in a range lo..hi: lo + v (hi - lo) / 255, rounded half up
-abbrev pub paletteValue : ℕ → ℤ → ℤ → ℤ
-paletteValue v lo hi = partWay 255 v lo hi
+-- a palette byte v in a range lo..hi: the whole number nearest to lo + v (hi - lo) / 255. None lies midway, since 255 is odd: specs/Nearest.antt states it
+unfoldable pub paletteValue : ℕ → ℤ → ℤ → ℤ
+paletteValue v lo hi = lo +ℤ floorDiv (pos v *ℤ (hi -ℤ lo) +ℤ pos 127) 255
 
 -- an index: v rounded half up to an integer, then taken to the nearest in 0..hival
 abbrev pub roundIndex : ℤ → ℕ → ℤ

@@ -3,7 +3,7 @@ use mathlib.Core.Path.{_≡_, refl}
 use Prim.Native.Nat.{ℕ, _≤_, zero-le}
 use lib.IntN.{pos, negsuc}
 use borrow.Author.Tests.{le-ltb}
-use Rattle.fixed.specs.Numbers.{limited, partWay, paletteValue}
+use Rattle.fixed.specs.Numbers.{limited, paletteValue}
 use Rattle.fixed.specs.Bytes.{twoAt, twoBytes, fourBytes}
 use Rattle.fixed.specs.Loops.{total}
 use Rattle.fixed.specs.Values.{indexOf}
@@ -38,7 +38,7 @@ unfolding indexOf limited
 row-0 hival = rw (le-ltb hival 0 zero-le)
 
 b5 : paletteValue 0xB5 (pos 0) (pos 1000000) ≡ pos 709804
-unfolding partWay
+unfolding paletteValue
 b5 = refl
 
 -- ---- the theorem

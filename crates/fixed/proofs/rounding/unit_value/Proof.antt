@@ -5,7 +5,7 @@ use Prim.Native.Nat.{ℕ}
 use native.Mathlib.Omega.{arith}
 use lib.IntN.{ℤ, pos}
 use Rattle.fixed.specs.Loops.{allFrom}
-use Rattle.fixed.specs.Numbers.{partWay, paletteValue}
+use Rattle.fixed.specs.Numbers.{paletteValue}
 use Rattle.fixed.proofs.OverOne.{overOne}
 use Rattle.fixed.proofs.Tables.{right, entry-fits, entry-value}
 use borrow.Author.Needs.{needs}
@@ -18,7 +18,7 @@ rule k = paletteValue k (pos 0) (pos 1000000)
 
 -- each of the 256 entries is that, and so not above 1000000
 all : allFrom (right rule 1000000 overOne) 0 256 ≡ true
-unfolding allFrom partWay rule overOne
+unfolding allFrom paletteValue rule overOne
 all = refl
 
 mul-result : tie.Need-mul-result
