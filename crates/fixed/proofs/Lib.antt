@@ -10,6 +10,7 @@ pub mod Stores
 pub mod Decide
 pub mod Scans
 pub mod Nearest
+pub mod Errors
 pub mod Tables
 pub mod OverOne
 pub mod Totals

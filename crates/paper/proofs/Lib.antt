@@ -4,3 +4,4 @@ pub mod Tints
 pub mod Labs
 pub mod Grays
 pub mod Paper
+pub mod Closeness

@@ -78,7 +78,7 @@ filled-value f zero k v h l = absurd (omega arith)
 filled-value f (suc m) k v h l = at-last f m k v (decLt k m) h l (λ q. filled-value f m k v q (omega arith))
 
 module _ (e m : ℕ) (c0 c1 v : List ℤ) (k : ℕ) (lt : k < m) (le : m ≤ length v) where
-  tinted : value (tintStep e m c0 c1 v) k ≡ tintValue (value c0 k) (value c1 k) (tintOf (value v 0) e)
+  pub tinted : value (tintStep e m c0 c1 v) k ≡ tintValue (value c0 k) (value c1 k) (tintOf (value v 0) e)
   unfolding tintStep
   tinted = filled-value (λ k. tintValue (value c0 k) (value c1 k) (tintOf (value v 0) e)) m k v lt le
 

@@ -306,6 +306,14 @@ fn tints(maker: &mut Maker) {
         let label = format!("from end to end over Lab, tint {}", decimal(v));
         maker.colour(&label, &far, 0, &[v]);
     }
+    // Nearly two millionths from the exact component: what exponent 4 comes to at its worst.
+    let worst = page(&[separation(0, DEVICE_GRAY, 4, [0; 4], [999_394, 0, 0, 0])]);
+    maker.colour(
+        "exponent 4, 1.923 millionths from the exact",
+        &worst,
+        0,
+        &[974_048],
+    );
     // It is always answered in the alternate space, under every name.
     for name in ["All", "None", "Black"] {
         let mut made = separation(0, DEVICE_CMYK, 1, [0; 4], [0, HALF, ONE, 0]);
