@@ -12,7 +12,6 @@ use Rattle.fixed.specs.Values.{places, given}
 use Rattle.cie.specs.Closings.{closed}
 use Rattle.page.specs.Outcomes.{accepted}
 use Rattle.page.specs.Validation.{validated}
-use Rattle.page.proofs.Accepted.{kind-known}
 use Rattle.page.proofs.Wholes.{whole-at}
 use Rattle.space.specs.Numbers.{asked}
 use Rattle.space.specs.Spaces.{Space, none, gray, rgb, cmyk, calGray, calRgb, lab, separation, indexed, countOf}
@@ -46,9 +45,9 @@ module _ (page : List ℕ) (number : ℕ) (ok : validated page ≡ accepted) whe
   abbrev space : Space
   space = spaceAt page number
 
-  -- a block's kind is a byte, so a number has components just where it is one that may be asked for
+  -- a number has components just where it is one that may be asked for
   counts : ltb 0 (countOf space) ≡ asked page number
-  counts = asked-space page number (omega (arith, kind-known page ok number))
+  counts = asked-space page number
 
   some-asked : asked page number ≡ true → 1 ≤ countOf space
   some-asked e = ltb-true 0 (countOf space) (counts ∙ e)

@@ -5,7 +5,6 @@ use mathlib.Core.List.{List, _++_}
 use Prim.Native.Nat.{ℕ, _≤_, _<_}
 use lib.IntN.{ℤ}
 use lib.ListN.{length, drop}
-use Rattle.fixed.specs.Values.{longest}
 use Rattle.cie.specs.Answers.{Reply, answer, refusal}
 use Rattle.space.specs.Numbers.{asked}
 use Rattle.space.specs.Spaces.{countOf}
@@ -15,7 +14,7 @@ use Rattle.page.specs.Validation.{validated}
 use Rattle.colour.specs.Evaluating.{evaluated}
 use Rattle.recipe.specs.Writes.{wrote, refusal as unwritten}
 use Rattle.recipe.specs.Writing.{writeReply, writeLeft}
-use Rattle.runner.specs.Runs.{ran}
+use Rattle.runner.specs.Runs.{longest, ran}
 
 -- a reply that is an answer, with its floats, and no refusal
 abbrev pub IsAnswer : Reply → Type 0

@@ -1,50 +1,61 @@
--- What the values reply in the space at a number, in the code's own terms: by the space within, or by the closing step.
+-- What the values reply in the space of a level, in the code's own terms: by the space within, or by the closing step.
 use mathlib.Core.Path.{_≡_, refl, ap, _∙_, sym}
 use mathlib.Core.List.{List}
 use Prim.Native.Nat.{ℕ}
 use lib.IntN.{ℤ}
-use lib.ListN.{length}
+use lib.ListN.{length, take}
 use borrow.Author.Tests.{eq-eqb, ne-eqb}
-use Rattle.fixed.specs.Values.{places, given}
+use Rattle.fixed.specs.Values.{places, given, tintStep}
 use Rattle.cie.specs.declared.Closing.{Closing}
+use Rattle.cie.specs.declared.Closing.the-variants.{Nothing, Gray, Rgb, Cmyk, CalGray, CalRgb, Lab}
 use Rattle.cie.specs.Answers.{refusal}
 use Rattle.cie.specs.Closings.{closed}
 use Rattle.page.specs.Outcomes.{accepted, refused}
 use Rattle.page.specs.Validation.{validated}
-use Rattle.space.specs.Numbers.{kindAt, innerAt}
-use Rattle.space.specs.Spaces.{Space, countOf, closingOf}
-use Rattle.space.specs.Pages.{spaceAt, rowAt, tintAt}
-use Rattle.space.proofs.Levels.{at-indexed, at-separation, plain-at}
-use Rattle.colour.specs.Colours.{limitedTo, settled, valued, answered}
+use Rattle.record.specs.Layout.{entriesOf}
+use Rattle.record.specs.declared.types.Ranges.{Ranges}
+use Rattle.record.specs.declared.types.Separation.{Separation as Ink}
+use Rattle.space.specs.Spaces.{Space, countOf}
+use Rattle.space.specs.Pages.{plainAt, tintedAt, rowAt, spaceAt}
+use Rattle.space.specs.Levels.{plainIn, spaceIn}
+use Rattle.space.specs.declared.nesting.Level.{Level}
+use Rattle.space.specs.declared.nesting.Level.the-variants.{Plain, Separation, Indexed}
+use Rattle.colour.specs.Colours.{limitedTo, valued, answered}
 use Rattle.colour.specs.Evaluating.{evaluated}
+use Rattle.colour.proofs.Steps.{tint-first}
 
--- a plain space's values are settled
-pub valued-plain : (page : List ℕ) (n : ℕ) (v : List ℤ) → (kindAt page n ≡ 4 → ⊥) → (kindAt page n ≡ 5 → ⊥) → settled (spaceAt page n) v ≡ valued (spaceAt page n) v
+-- a plain space's values are limited, and then its closing step
+settles : (c : Closing) (q : Ranges) (v : List ℤ) → closed c (limitedTo (plainIn c q) (countOf (plainIn c q)) v) ≡ valued (plainIn c q) v
 unfolding valued
-valued-plain page n v = plain-at page n P refl refl refl refl (λ _. refl) (λ _. refl) (λ _ _ _ _ _. refl)
-  where
-    P : Space → Type 0
-    P s = settled s v ≡ valued s v
+settles Nothing q v = refl
+settles Gray q v = refl
+settles Rgb q v = refl
+settles Cmyk q v = refl
+settles (CalGray k) q v = refl
+settles (CalRgb k) q v = refl
+settles (Lab k) q v = refl
 
-module _ (page : List ℕ) (n : ℕ) (v : List ℤ) where
-  module _ (b : ℕ) (u : List ℤ) (e : b ≡ innerAt page n) where
-    pub value-indexed : kindAt page n ≡ 4 → u ≡ rowAt page n (spaceAt page (innerAt page n)) v → valued (spaceAt page b) u ≡ valued (spaceAt page n) v
-    unfolding valued
-    value-indexed k h =
-        ap (λ (i : ℕ). valued (spaceAt page i) u) e ∙
-        (ap (valued (spaceAt page (innerAt page n))) h ∙ sym (ap (λ (s : Space). valued s v) (at-indexed page n k)))
+-- what the code makes of a level l and the values v: values u, of the space s within or for the closing step
+module _ (page : List ℕ) {l : Level} {u : List ℤ} (v : List ℤ) where
+  pub value-plain : (c : Closing) (q : Ranges) {m : ℕ} → l ≡ Plain c q → m ≡ countOf (plainIn c q) → u ≡ limitedTo (plainIn c q) m v → closed c u ≡ valued (spaceIn page l) v
+  unfolding spaceIn
+  value-plain c q el em eu =
+      ap (closed c) (eu ∙ ap (λ (j : ℕ). limitedTo (plainIn c q) j v) em) ∙ settles c q v ∙ sym (ap (λ (k : Level). valued (spaceIn page k) v) el)
 
-    pub value-separation : kindAt page n ≡ 5 → u ≡ tintAt page n (spaceAt page (innerAt page n)) v → valued (spaceAt page b) u ≡ valued (spaceAt page n) v
-    unfolding valued
-    value-separation k h =
-        ap (λ (i : ℕ). valued (spaceAt page i) u) e ∙
-        (ap (valued (spaceAt page (innerAt page n))) h ∙ sym (ap (λ (s : Space). valued s v) (at-separation page n k)))
+  module _ {s : Space} where
+    pub value-separation : (p : Ink) {m : ℕ} → l ≡ Separation p → s ≡ plainAt page (p .alternate) → m ≡ countOf s
+        → u ≡ tintStep (p .exponent) m (entriesOf (p .c0)) (entriesOf (p .c1)) v → valued s u ≡ valued (spaceIn page l) v
+    unfolding spaceIn valued
+    value-separation p {m} el es em eu =
+        let w : m ≡ countOf (plainAt page (p .alternate)) = em ∙ ap countOf es in
+        (λ i. valued (es i) ((eu ∙ tint-first (p .exponent) m (entriesOf (p .c0)) (entriesOf (p .c1)) v) i)) ∙
+        ap (λ (j : ℕ). valued (plainAt page (p .alternate)) (tintStep (p .exponent) j (take j (entriesOf (p .c0))) (take j (entriesOf (p .c1))) v)) w ∙
+        sym (ap (λ (k : Level). valued (spaceIn page k) v) el)
 
-  pub value-plain : (c : Closing) (m : ℕ) (u : List ℤ) → (kindAt page n ≡ 4 → ⊥) → (kindAt page n ≡ 5 → ⊥) → c ≡ closingOf (spaceAt page n) → m ≡ countOf (spaceAt page n)
-      → u ≡ limitedTo (spaceAt page n) m v → closed c u ≡ valued (spaceAt page n) v
-  value-plain c m u h g ec em eu =
-      ap (λ (x : Closing). closed x u) ec ∙
-      (ap (closed (closingOf (spaceAt page n))) (eu ∙ ap (λ (j : ℕ). limitedTo (spaceAt page n) j v) em) ∙ valued-plain page n v h g)
+    pub value-indexed : (n base hival : ℕ) → l ≡ Indexed n base hival → s ≡ tintedAt page base → u ≡ rowAt page n hival s v → valued s u ≡ valued (spaceIn page l) v
+    unfolding spaceIn valued
+    value-indexed n base hival el es eu =
+        ap (valued s) eu ∙ ap (λ (w : Space). valued w (rowAt page n hival w v)) es ∙ sym (ap (λ (k : Level). valued (spaceIn page k) v) el)
 
 -- the three replies to a list of components, m being the space's count
 module _ (s : Space) (cs : List ℤ) (m : ℕ) (e : m ≡ countOf s) where

@@ -2,6 +2,7 @@
 ghost use mathlib.Core.Path.{_≡_};
 ghost use Rattle.cie.specs.Answers.{meaning};
 ghost use Rattle.space.specs.Pages.{spaceAt};
+ghost use Rattle.space.specs.Levels.{spaceIn};
 ghost use Rattle.colour.specs.Colours.{valued, answered};
 use crate::values::limit_all;
 use crate::values::pick_row;
@@ -10,31 +11,41 @@ use cie::Answer;
 use cie::close;
 use fixed::VALUES;
 use fixed::start;
-use space::closing_at;
-use space::components;
-use space::inner;
-use space::kind;
+use space::Level;
+use space::count;
+use space::level_at;
+use space::plain_at;
+use space::plain_count;
+use space::plain_highs;
+use space::plain_lows;
+use space::tinted_at;
 
-// What the values answer in the space at n. It calls itself on the space within, whose rank is lower.
-fn value_in(page: &[u8], n: u32, v: [i32; VALUES]) -> Answer
-    ensures { λ r. ⌜ meaning r ≡ valued (spaceAt (now (page .entry)) n) v ⌝ }
+// What the values answer in a level's space. It calls itself on the level within, whose rank is lower.
+fn value_in(page: &[u8], l: Level, v: [i32; VALUES]) -> Answer
+    ensures { λ r. ⌜ meaning r ≡ valued (spaceIn (now (page .entry)) l) v ⌝ }
 {
-    let k = kind(page, n);
-    if k == 4 {
-        return value_in(page, inner(page, n), pick_row(page, n, v));
+    match l {
+        Level::Plain(c, q) => {
+            let u = limit_all(plain_count(c), plain_lows(c, q), plain_highs(c, q), v);
+            close(c, u[0], u[1], u[2], u[3])
+        }
+        Level::Separation(p) => {
+            let s = plain_at(page, p.alternate);
+            value_in(page, s, tint(p, count(s), v))
+        }
+        Level::Indexed { block, base, hival } => {
+            let s = tinted_at(page, base);
+            value_in(page, s, pick_row(page, block, hival, s, v))
+        }
     }
-    if k == 5 {
-        return value_in(page, inner(page, n), tint(page, n, v));
-    }
-    let u = limit_all(page, n, components(page, n), v);
-    close(closing_at(page, n), u[0], u[1], u[2], u[3])
 }
 
 // A colour of the space at a number of a page: 8 where there is no space, then 9 for a wrong count of components.
 pub fn evaluate_space(page: &[u8], n: u32, components: &[i32]) -> Answer
     ensures { λ r. ⌜ meaning r ≡ answered (spaceAt (now (page .entry)) n) (now (components .entry)) ⌝ }
 {
-    let m = space::components(page, n) as usize;
+    let l = level_at(page, n);
+    let m = count(l) as usize;
     if m == 0 {
         return Answer::Refused {
             number: 8,
@@ -47,5 +58,5 @@ pub fn evaluate_space(page: &[u8], n: u32, components: &[i32]) -> Answer
             block: 0,
         };
     }
-    value_in(page, n, start(components))
+    value_in(page, l, start(components))
 }

@@ -9,10 +9,6 @@ use Rattle.fixed.specs.Numbers.{limited, roundIndex, tintPower, tintValu
 abbrev pub places : ℕ
 places = 4
 
--- the words of the longest recipe: an Indexed of hival 255 over DeviceCMYK
-abbrev pub longest : ℕ
-longest = 1045
-
 -- value k, 0 where there is none
 abbrev pub value : List ℤ → ℕ → ℤ
 value v k = getD v k (pos 0)

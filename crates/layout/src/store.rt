@@ -30,8 +30,8 @@ pub fn put_num(out: &mut [u8], at: usize, v: i32)
 }
 
 // Stores the first n bytes of s.
-pub fn put_run(out: &mut [u8], at: usize, s: &[u8; 504], n: usize)
-    requires { ⌜ (n ≤ 504) × (at + n ≤ length (now out)) ⌝ }
+pub fn put_run(out: &mut [u8], at: usize, s: &[u8], n: usize)
+    requires { ⌜ (n ≤ length (now s)) × (at + n ≤ length (now out)) ⌝ }
     ensures { λ _. ⌜ now (out .exit) ≡ puts (now (out .entry)) at (run n (now (s .entry)) ∷ []) ⌝ }
 {
     let mut i: usize = 0;

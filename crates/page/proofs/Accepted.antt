@@ -1,22 +1,24 @@
 -- An accepted page: no refusal is due of its length, nor of any of its blocks.
-use mathlib.Core.Path.{_≡_, _∙_}
+use mathlib.Core.Path.{_≡_, refl, sym, subst, _∙_}
 use mathlib.Core.Bool.{true, _&&_}
 use mathlib.Core.List.{List}
 use Prim.Native.Nat.{ℕ, _+_, _*_, _/_, _≤_, _<_}
 use native.Mathlib.Decide.{decLt}
 use native.Mathlib.Omega.{arith}
-use borrow.Author.Tests.{eqb-true, ltb-true, ltb-false, lt-ltb, leb-true}
-use lib.Dec.{eqb, ltb}
+use borrow.Author.Tests.{eqb-true, leb-true}
+use lib.Dec.{eqb}
 use lib.ListN.{length, List·getD-eq-default}
 use lib.Seq.{getD-drop}
 use Rattle.fixed.specs.Bytes.{blocks, blockAt, byteAt}
+use Rattle.fixed.specs.Loops.{firstFrom}
 use Rattle.fixed.proofs.Decide.{cond-ind, passed, and-left, and-right}
 use Rattle.fixed.proofs.Scans.{first-none, first-all}
 use Rattle.record.specs.Layout.{checked}
-use Rattle.record.specs.Reading.{ownAt, bodyAt}
+use Rattle.record.specs.Reading.{kindAt, ownAt, bodyBy, bodyAt}
 use Rattle.record.specs.Rules.{known, formed, lawful, supported}
-use Rattle.space.specs.Numbers.{kindAt}
-use Rattle.page.specs.Outcomes.{Outcome, accepted, refused}
+use Rattle.record.specs.declared.types.Body.{Body}
+use Rattle.record.specs.declared.types.Body.the-variants.{Free}
+use Rattle.page.specs.Outcomes.{Outcome, accepted, refused, andThen}
 use Rattle.page.specs.Validation.{wellSized, faultOne, faultTwo, faultOwed, owedAt, permitted, held, passes, validated}
 use Rattle.page.proofs.Sizes.{sized-whole, sized-most}
 
@@ -24,13 +26,20 @@ use Rattle.page.proofs.Sizes.{sized-whole, sized-most}
 never : (k i : ℕ) → refused k i ≡ accepted → ⊥
 never k i e = let z : _≡_ {A = ℕ} 0 1 = cc in omega arith
 
--- a number of a kind below 64 is below 64, and that is its block's byte 0
-kind-below : (page : List ℕ) (n k : ℕ) → k < blocks → kindAt page n ≡ k → (n < blocks) × (byteAt (blockAt page n) 0 ≡ k)
-unfolding kindAt
-kind-below page n k m = cond-ind P (ltb n blocks) (λ t z. (ltb-true n blocks t, z)) (λ t z. absurd (omega (arith, ltb-false n blocks t)))
-  where
-    P : ℕ → Type 0
-    P x = x ≡ k → (n < blocks) × (byteAt (blockAt page n) 0 ≡ k)
+-- where two passes refuse nothing, neither does
+both : (x y : Outcome) → andThen x y ≡ accepted → (x ≡ accepted) × (y ≡ accepted)
+both accepted y e = (refl, e)
+both (refused k i) y e = absurd (never k i e)
+
+-- a body whose numbers are lawful and supported, and its reference permitted
+pub record Fair (page : List ℕ) (y : Body) : Type 0 where
+  pub lawful-is : lawful y ≡ true
+  pub supported-is : supported y ≡ true
+  pub permitted-is : permitted page y ≡ true
+
+free-fair : (page : List ℕ) → Fair page Free
+unfolding lawful supported permitted
+free-fair page = record { lawful-is = refl; supported-is = refl; permitted-is = refl }
 
 module _ (page : List ℕ) (ok : validated page ≡ accepted) where
   -- 1 is not due, and neither pass finds a fault
@@ -45,14 +54,18 @@ module _ (page : List ℕ) (ok : validated page ≡ accepted) where
   pub well-sized : wellSized (length page) ≡ true
   well-sized = both-pass .0
 
+  first-pass : firstFrom accepted refused (faultOne page) 0 (length page / 512) ≡ accepted
+  first-pass = both (firstFrom accepted refused (faultOne page) 0 (length page / 512)) (firstFrom accepted refused (faultTwo page) 0 (length page / 512)) (both-pass .1) .0
+
+  second-pass : firstFrom accepted refused (faultTwo page) 0 (length page / 512) ≡ accepted
+  second-pass = both (firstFrom accepted refused (faultOne page) 0 (length page / 512)) (firstFrom accepted refused (faultTwo page) 0 (length page / 512)) (both-pass .1) .1
+
   -- no block has a fault of the first pass, nor of the second
   pub none-one : (i : ℕ) → i < length page / 512 → faultOne page i ≡ 0
-  none-one = first-none _ refused (faultOne page) accepted never (length page / 512) (both-pass .1) .1
+  none-one = first-none accepted refused (faultOne page) accepted never (length page / 512) first-pass .1
 
   pub none-two : (i : ℕ) → i < length page / 512 → faultTwo page i ≡ 0
-  none-two =
-      let second = first-none _ refused (faultOne page) accepted never (length page / 512) (both-pass .1) .0 in
-      first-none accepted refused (faultTwo page) accepted never (length page / 512) second .1
+  none-two = first-none accepted refused (faultTwo page) accepted never (length page / 512) second-pass .1
 
   -- what holds of each block of the page
   module _ (i : ℕ) (l : i < length page / 512) where
@@ -99,8 +112,8 @@ module _ (page : List ℕ) (ok : validated page ≡ accepted) where
     pub held-at : held page i (owedAt page i) (bodyAt (blockAt page i)) ≡ true
     held-at = two .3
 
-  -- a byte past the last block is 0
-  past : (n : ℕ) → length page / 512 ≤ n → byteAt (blockAt page n) 0 ≡ 0
+  -- the kind past the last block is 0
+  past : (n : ℕ) → length page / 512 ≤ n → kindAt (blockAt page n) ≡ 0
   past n l =
       let o : length page ≤ 512 * n + 0 = omega (arith, sized-whole _ well-sized) in
       getD-drop (512 * n) page 0 0 ∙ List·getD-eq-default page 0 o
@@ -114,27 +127,17 @@ module _ (page : List ℕ) (ok : validated page ≡ accepted) where
       within (yes w) = leb-true _ 6 (and-left _ _ (and-left (known (blockAt page n)) _ (formed-at n w)))
       within (no w) = omega (arith, past n (omega arith))
 
-  -- a block that the page does not have is of kind 0, so a number below 64 of another kind is a block of the page
-  pub kind-past : (n : ℕ) → length page / 512 ≤ n → n < blocks → kindAt page n ≡ 0
-  unfolding kindAt
-  kind-past n l m = simp (lt-ltb n blocks m) (past n l)
-
-  pub on-page : (n : ℕ) → n < blocks → (kindAt page n ≡ 0 → ⊥) → n < length page / 512
-  on-page n m h = within (decLt n (length page / 512))
+  -- 4 to 6 are due of no block, nor of one that the page does not have, which is free
+  pub fair-at : (n : ℕ) → Fair page (bodyAt (blockAt page n))
+  unfolding bodyBy
+  fair-at n = within (decLt n (length page / 512))
     where
-      within : Dec (n < length page / 512) → n < length page / 512
-      within (yes w) = w
-      within (no w) = absurd (h (kind-past n (omega arith) m))
-
-  -- a number whose kind is 1 to 63 is a block of the page, and that is its byte 0
-  pub kind-block : (n k : ℕ) → kindAt page n ≡ k → 0 < k → k < blocks → (n < length page / 512) × (byteAt (blockAt page n) 0 ≡ k)
-  kind-block n k e s m = (on-page n (below .0) (λ z. omega arith), below .1)
-    where
-      below : (n < blocks) × (byteAt (blockAt page n) 0 ≡ k)
-      below = kind-below page n k m e
+      within : Dec (n < length page / 512) → Fair page (bodyAt (blockAt page n))
+      within (yes w) = record { lawful-is = lawful-at n w; supported-is = supported-at n w; permitted-is = permitted-at n w }
+      within (no w) = subst (λ (k : ℕ). Fair page (bodyBy k (blockAt page n))) (sym (past n (omega arith))) (free-fair page)
 
 -- accepted is every page of a right length with no fault in its blocks
 pub accepted-where : (page : List ℕ) → wellSized (length page) ≡ true → ((i : ℕ) → i < length page / 512 → faultOne page i ≡ 0)
     → ((i : ℕ) → i < length page / 512 → faultTwo page i ≡ 0) → validated page ≡ accepted
 unfolding validated
-accepted-where page s f g = rw s (first-all _ refused (faultOne page) (length page / 512) f ∙ first-all accepted refused (faultTwo page) (length page / 512) g)
+accepted-where page s f g = rw (s, first-all accepted refused (faultOne page) (length page / 512) f) (first-all accepted refused (faultTwo page) (length page / 512) g)

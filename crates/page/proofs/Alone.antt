@@ -1,6 +1,6 @@
 -- Each block of an accepted page, taken by itself, is a block that nothing is refused of.
 use mathlib.Core.Path.{_≡_, refl, sym, ap, _∙_}
-use mathlib.Core.Bool.{Bool, true, false, _&&_, _||_, true≢false, or-true, cond}
+use mathlib.Core.Bool.{Bool, true, false, _&&_, _||_, or-true, cond}
 use mathlib.Core.List.{List}
 use Prim.Native.Nat.{ℕ, _*_, _/_, _≤_, _<_}
 use native.Mathlib.Omega.{arith}
@@ -8,7 +8,7 @@ use borrow.Author.Tests.{lt-ltb}
 use lib.Dec.{ltb}
 use lib.ListN.{length, drop, length-drop}
 use lib.Seq.{length-take-le}
-use Rattle.fixed.specs.Bytes.{blocks, device}
+use Rattle.fixed.specs.Bytes.{blocks, device, blockAt}
 use Rattle.fixed.proofs.Decide.{and-left, and-right, both}
 use Rattle.record.specs.Layout.{checked}
 use Rattle.record.specs.Reading.{ownAt, bodyAt, recordAt}
@@ -16,41 +16,24 @@ use Rattle.record.specs.Rules.{known, shaped, lawful, supported, refers, faultO
 use Rattle.record.specs.declared.types.Body.{Body}
 use Rattle.record.specs.declared.types.Body.the-variants.{Free, CalGray, CalRgb, Lab, Indexed, Separation, Palette}
 use Rattle.record.proofs.Shapes.{formed-shaped}
-use Rattle.space.specs.Numbers.{kindAt}
 use Rattle.page.specs.Outcomes.{accepted}
-use Rattle.page.specs.Validation.{alternateKind, baseKind, permitted, validated}
+use Rattle.page.specs.Validation.{isAlternate, isBase, refersTo, permitted, validated}
 use Rattle.page.proofs.Sizes.{sized-whole}
 use Rattle.page.proofs.Accepted.{well-sized, checked-at, formed-at, own-at, below-most, lawful-at, supported-at, permitted-at}
-use Rattle.page.proofs.Permits.{alternate-ind, base-ind}
 use Rattle.page.proofs.Bytes.{ownBytes, checked-within, formed-within, own-within, body-within}
 
 -- none of five tests refuses
 none-due : (a b c d e : Bool) → a ≡ true → b ≡ true → c ≡ true → d ≡ true → e ≡ true → _≡_ {A = ℕ} (cond a (cond b (cond c (cond d (cond e 0 6) 5) 4) 3) 3) 0
 none-due a b c d e h₁ h₂ h₃ h₄ h₅ = rw (h₁, h₂, h₃, h₄, h₅)
 
--- a number of a kind permitted is a device code or one that a block can have
-module _ (page : List ℕ) (b : ℕ) where
-  -- of a number that can be no block's, a kind permitted is a device code
-  Coded : ℕ → Type 0
-  Coded k = ltb k blocks ≡ false → device k ≡ true
-
-  referring : (t : Bool) → ltb b blocks ≡ t → (ltb b blocks ≡ false → device b ≡ true) → (device b || ltb b blocks) ≡ true
-  referring true e h = rw e (or-true (device b))
-  referring false e h = rw (h e)
-
-  pub base-refers : baseKind (kindAt page b) ≡ true → (device b || ltb b blocks) ≡ true
-  unfolding kindAt Coded
-  base-refers h =
-      referring (ltb b blocks) refl (λ e.
-      base-ind Coded (λ _. refl) (λ _. refl) (λ _. refl) (λ z. absurd (true≢false z)) (λ z. absurd (true≢false z)) (λ z. absurd (true≢false z))
-      (λ z. absurd (true≢false z)) b (rw e at h) e)
-
-  pub alternate-refers : alternateKind (kindAt page b) ≡ true → (device b || ltb b blocks) ≡ true
-  unfolding kindAt Coded
-  alternate-refers h =
-      referring (ltb b blocks) refl (λ e.
-      alternate-ind Coded (λ _. refl) (λ _. refl) (λ _. refl) (λ z. absurd (true≢false z)) (λ z. absurd (true≢false z)) (λ z. absurd (true≢false z))
-      b (rw e at h) e)
+-- a reference that is permitted is a device code or a number that a block can have
+refers-so : (page : List ℕ) (f : Body → Bool) (n : ℕ) → refersTo page f n ≡ true → (device n || ltb n blocks) ≡ true
+unfolding refersTo
+refers-so page f n = by-size (ltb n blocks)
+  where
+    by-size : (t : Bool) → cond t (f (bodyAt (blockAt page n))) (device n) ≡ true → (device n || t) ≡ true
+    by-size true h = or-true (device n)
+    by-size false h = rw h
 
 -- a body that is permitted on a page refers as a body may alone
 pub permitted-refers : (page : List ℕ) (y : Body) → permitted page y ≡ true → refers y ≡ true
@@ -59,8 +42,8 @@ permitted-refers page Free h = refl
 permitted-refers page (CalGray g) h = refl
 permitted-refers page (CalRgb g) h = refl
 permitted-refers page (Lab g) h = refl
-permitted-refers page (Indexed base hival) h = base-refers page base h
-permitted-refers page (Separation p) h = alternate-refers page (p .alternate) h
+permitted-refers page (Indexed base hival) h = refers-so page isBase base h
+permitted-refers page (Separation p) h = refers-so page isAlternate (p .alternate) h
 permitted-refers page Palette h = refl
 
 module _ (page : List ℕ) (ok : validated page ≡ accepted) (i : ℕ) (l : i < length page / 512) where

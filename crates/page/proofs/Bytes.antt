@@ -1,126 +1,17 @@
--- What is read of a block is read of its 512 bytes: two lists that agree on those say the same.
-use mathlib.Core.Path.{_≡_, sym, ap, _∙_}
+-- What is read of a block is read of its own 512 bytes.
+use mathlib.Core.Path.{_≡_, sym}
 use mathlib.Core.Bool.{_&&_, cond}
 use mathlib.Core.List.{List}
-use Prim.Native.Nat.{ℕ, _+_, _-_, _*_, _≤_, _<_}
-use native.Mathlib.Omega.{arith}
-use lib.Dec.{eqb, leb}
+use Prim.Native.Nat.{ℕ, _<_}
+use lib.Dec.{eqb}
 use lib.ListN.{take}
 use lib.Seq.{getD-take}
-use Rattle.fixed.specs.Bytes.{blockAt, byteAt, twoAt, numberAt}
-use Rattle.fixed.specs.Loops.{zeroBetween}
-use Rattle.fixed.proofs.Scans.{all-same}
-use Rattle.fixed.proofs.Totals.{total-same}
-use Rattle.record.specs.Layout.{namedTo, plain, weighed, checked}
-use Rattle.record.specs.Reading.{kindAt, ownAt, tripleAt, fourAt as fourNumbersAt, grayAt, rgbAt, labAt, separationAt, bodyBy, bodyAt}
-use Rattle.record.specs.Rules.{known, nameShown, formed}
-use Rattle.record.specs.declared.types.Body.{Body}
-use Rattle.record.specs.declared.types.Body.the-variants.{Free, CalGray, CalRgb, Lab, Indexed, Separation, Palette}
-use Rattle.record.proofs.Shapes.{name-same}
+use Rattle.fixed.specs.Bytes.{blockAt, byteAt}
+use Rattle.record.specs.Layout.{checked}
+use Rattle.record.specs.Reading.{ownAt, bodyAt}
+use Rattle.record.specs.Rules.{formed}
+use Rattle.record.proofs.Same.{checked-same, own-same, body-same, formed-same}
 use Rattle.page.specs.Validation.{faultOne}
-
-module _ (b c : List ℕ) (same : (k : ℕ) → k < 512 → byteAt b k ≡ byteAt c k) where
-  -- numbers
-  two-same : (at : ℕ) → at < 511 → twoAt b at ≡ twoAt c at
-  two-same at l = rw (same at (omega arith), same (at + 1) (omega arith))
-
-  number-same : (at : ℕ) → at < 509 → numberAt b at ≡ numberAt c at
-  unfolding numberAt
-  number-same at l =
-      rw (same at (omega arith), same (at + 1) (omega arith), same (at + 2) (omega arith), same (at + 3) (omega arith))
-
-  zero-same : (from to : ℕ) → to ≤ 512 → zeroBetween b from to ≡ zeroBetween c from to
-  unfolding zeroBetween
-  zero-same from to l = all-same _ _ from from (to - from) (λ i m. ap (λ (x : ℕ). eqb x 0) (same (from + i) (omega arith)))
-
-  -- the check and the own number
-  pub checked-same : checked b ≡ checked c
-  unfolding checked plain weighed
-  checked-same =
-      rw (
-        two-same 508 (omega arith),
-        two-same 510 (omega arith),
-        total-same (λ i. byteAt b i) (λ i. byteAt c i) 508 (λ k l. same k (omega arith)),
-        total-same (λ i. (508 - i) * byteAt b i) (λ i. (508 - i) * byteAt c i) 508 (λ k l. ap (λ (x : ℕ). (508 - k) * x) (same k (omega arith))),
-      )
-
-  pub own-same : ownAt b ≡ ownAt c
-  own-same = two-same 2 (omega arith)
-
-  -- the body, field by field
-  triple-same : (at : ℕ) → at < 500 → tripleAt b at ≡ tripleAt c at
-  triple-same at l = λ i. record { x = number-same at (omega arith) i; y = number-same (at + 4) (omega arith) i; z = number-same (at + 8) (omega arith) i }
-
-  four-same : (at : ℕ) → at < 490 → fourNumbersAt b at ≡ fourNumbersAt c at
-  four-same at l = λ i. record { a = number-same at (omega arith) i; b = number-same (at + 4) (omega arith) i; c = number-same (at + 8) (omega arith) i; d = number-same (at + 12) (omega arith) i }
-
-  gray-same : grayAt b ≡ grayAt c
-  gray-same = λ i. record { white = triple-same 4 (omega arith) i; black = triple-same 16 (omega arith) i; gamma = number-same 28 (omega arith) i }
-
-  rgb-same : rgbAt b ≡ rgbAt c
-  rgb-same =
-      λ i. record {
-        white = triple-same 4 (omega arith) i;
-        black = triple-same 16 (omega arith) i;
-        gammas = triple-same 28 (omega arith) i;
-        a = triple-same 40 (omega arith) i;
-        b = triple-same 52 (omega arith) i;
-        c = triple-same 64 (omega arith) i;
-      }
-
-  lab-same : labAt b ≡ labAt c
-  lab-same =
-      λ i. record {
-        white = triple-same 4 (omega arith) i;
-        black = triple-same 16 (omega arith) i;
-        range =
-            record {
-              amin = number-same 28 (omega arith) i;
-              amax = number-same 32 (omega arith) i;
-              bmin = number-same 36 (omega arith) i;
-              bmax = number-same 40 (omega arith) i;
-            };
-      }
-
-  separation-same : separationAt b ≡ separationAt c
-  separation-same =
-      λ i. record {
-        alternate = two-same 4 (omega arith) i;
-        exponent = same 6 (omega arith) i;
-        «name_len» = same 7 (omega arith) i;
-        c0 = four-same 136 (omega arith) i;
-        c1 = four-same 152 (omega arith) i;
-      }
-
-  by-kind : (k : ℕ) → bodyBy k b ≡ bodyBy k c
-  unfolding bodyBy
-  by-kind k =
-      λ i. cond (eqb k 1) (CalGray (gray-same i))
-      (cond (eqb k 2) (CalRgb (rgb-same i))
-      (cond (eqb k 3) (Lab (lab-same i))
-      (cond (eqb k 4) (Indexed (two-same 4 (omega arith) i) (two-same 6 (omega arith) i))
-      (cond (eqb k 5) (Separation (separation-same i))
-      (cond (eqb k 6) Palette Free)))))
-
-  pub body-same : bodyAt b ≡ bodyAt c
-  body-same = by-kind (kindAt b) ∙ ap (λ (k : ℕ). bodyBy k c) (same 0 (omega arith))
-
-  -- refusal 3, but the own number
-  known-same : known b ≡ known c
-  unfolding known
-  known-same =
-      let z : zeroBetween b (namedTo (bodyAt b)) 508 ≡ zeroBetween c (namedTo (bodyAt c)) 508 =
-      ap (λ (y : Body). zeroBetween b (namedTo y) 508) body-same ∙ zero-same (namedTo (bodyAt c)) 508 (omega arith) in
-      λ i. leb (same 0 (omega arith) i) 6 && (eqb (same 1 (omega arith) i) 0 && z i)
-
-  shown-same : nameShown b ≡ nameShown c
-  unfolding nameShown
-  shown-same =
-      rw (same 0 (omega arith), same 7 (omega arith), name-same b c 8 8 (byteAt c 7) (λ i l. same (8 + i) (omega arith)))
-
-  pub formed-same : formed b ≡ formed c
-  unfolding formed
-  formed-same = rw (known-same, shown-same)
 
 -- the 512 bytes of block i of a page
 abbrev pub ownBytes : List ℕ → ℕ → List ℕ

@@ -5,15 +5,15 @@ use Prim.Native.Nat.{ℕ, _+_, _*_, _<_}
 use borrow.Author.Tests.{lt-ltb}
 use lib.ListN.{replicate}
 use lib.Seq.{getD-drop}
-use Rattle.fixed.specs.Bytes.{blocks}
+use Rattle.fixed.specs.Bytes.{blocks, blockAt}
 use Rattle.fixed.specs.Loops.{total, allFrom, zeroBetween, firstFrom}
 use Rattle.fixed.proofs.Listed.{zeros-at}
 use Rattle.record.specs.Layout.{plain, weighed, checked}
-use Rattle.record.specs.Reading.{bodyBy}
+use Rattle.record.specs.Reading.{bodyBy, bodyAt}
 use Rattle.record.specs.Rules.{known, nameShown, formed, lawful, supported}
-use Rattle.space.specs.Numbers.{kindAt}
+use Rattle.record.specs.declared.types.Body.the-variants.{Free}
 use Rattle.space.specs.Spaces.{countOf, none}
-use Rattle.space.specs.Pages.{plainBy, tintedBy, spaceBy, spaceAt}
+use Rattle.space.specs.Pages.{plainOf, tintedOf, spaceOf, spaceAt}
 use Rattle.page.specs.Outcomes.{accepted}
 use Rattle.page.specs.Validation.{wellSized, faultOne, permitted, owedAt, held, faultOwed, faultTwo, validated}
 
@@ -25,15 +25,15 @@ pub zero-accepted : validated zeroPage ≡ accepted
 unfolding validated wellSized faultOne faultTwo faultOwed owedAt permitted held checked plain weighed bodyBy known nameShown formed lawful supported total allFrom zeroBetween firstFrom
 zero-accepted = refl
 
--- every block's kind is 0
-zero-kind : (n : ℕ) → n < blocks → kindAt zeroPage n ≡ 0
-unfolding kindAt
-zero-kind n l = simp (lt-ltb n blocks l) (getD-drop (512 * n) zeroPage 0 0 ∙ zeros-at 512 (512 * n + 0))
+-- every block is free
+zero-free : (n : ℕ) → bodyAt (blockAt zeroPage n) ≡ Free
+unfolding bodyBy
+zero-free n = ap (λ (k : ℕ). bodyBy k (blockAt zeroPage n)) (getD-drop (512 * n) zeroPage 0 0 ∙ zeros-at 512 (512 * n + 0))
 
 -- no block number is a space's
 pub zero-none : (n : ℕ) → n < blocks → spaceAt zeroPage n ≡ none
-unfolding spaceBy tintedBy plainBy
-zero-none n l = ap (λ (k : ℕ). spaceBy k zeroPage n) (zero-kind n l)
+unfolding spaceOf tintedOf plainOf
+zero-none n l = rw (lt-ltb n blocks l, zero-free n)
 
 pub zero-count : (n : ℕ) → n < blocks → countOf (spaceAt zeroPage n) ≡ 0
 zero-count n l = ap countOf (zero-none n l)

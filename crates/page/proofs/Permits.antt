@@ -1,73 +1,75 @@
--- A reference to a permitted kind: it falls in rank, so it is the space within, and that has components.
-use mathlib.Core.Path.{_≡_, sym, subst}
-use mathlib.Core.Bool.{true, _||_, cond}
+-- A reference is permitted just where the space that it is to, at a rank that falls, has components; and what is held of a body with so many of them within.
+use mathlib.Core.Path.{_≡_, refl, sym, ap, _∙_}
+use mathlib.Core.Bool.{Bool, true, false, cond}
 use mathlib.Core.List.{List}
-use Prim.Native.Nat.{ℕ, _≤_, _<_}
-use native.Mathlib.Omega.{arith}
-use borrow.Author.Tests.{eqb-true, lt-ltb}
-use lib.Dec.{eqb}
-use Rattle.fixed.specs.Bytes.{grayCode, rgbCode, cmykCode}
-use Rattle.fixed.proofs.Decide.{or-ind}
-use Rattle.space.specs.Numbers.{kindAt, rankAt, referenceAt, innerAt}
-use Rattle.space.specs.Spaces.{countOf}
-use Rattle.space.specs.Pages.{plainBy, tintedBy, spaceBy, spaceAt}
-use Rattle.space.proofs.Ranks.{rank-indexed, rank-separation}
-use Rattle.page.specs.Validation.{alternateKind, baseKind}
+use Prim.Native.Nat.{ℕ, _≤_}
+use lib.Dec.{ltb}
+use borrow.Author.Tests.{ltb-true}
+use Rattle.fixed.specs.Bytes.{blocks, blockAt}
+use Rattle.record.specs.Reading.{bodyAt}
+use Rattle.record.specs.declared.types.Separation.{Separation as Ink}
+use Rattle.record.specs.declared.types.Body.{Body}
+use Rattle.record.specs.declared.types.Body.the-variants.{Free, CalGray, CalRgb, Lab, Indexed, Separation, Palette}
+use Rattle.space.specs.Spaces.{Space, countOf}
+use Rattle.space.specs.Pages.{deviceOf, numbered, plainOf, plainAt, tintedOf, tintedAt}
+use Rattle.space.proofs.Asked.{device-some}
+use Rattle.page.specs.Validation.{isAlternate, isBase, refersTo, permitted, within, paletteSize}
 
--- what holds of each kind that an alternate may have, and a base
-module _ (P : ℕ → Type 0) (a : P grayCode) (b : P rgbCode) (c : P cmykCode) (d : P 1) (e : P 2) (f : P 3) where
-  at : (k m : ℕ) → P m → eqb k m ≡ true → P k
-  at k m p t = subst P (sym (eqb-true k m t)) p
+-- f is what a block is permitted by, and g what its space is
+module _ (page : List ℕ) (f : Body → Bool) (g : Body → Space) (same : (y : Body) → f y ≡ ltb 0 (countOf (g y))) (n : ℕ) where
+  by-size : (t : Bool) → cond t (f (bodyAt (blockAt page n))) (ltb 0 (countOf (deviceOf n))) ≡ ltb 0 (countOf (cond t (g (bodyAt (blockAt page n))) (deviceOf n)))
+  by-size true = same _
+  by-size false = refl
 
-  pub alternate-ind : (k : ℕ) → alternateKind k ≡ true → P k
-  unfolding alternateKind
-  alternate-ind k h =
-      or-ind (eqb k grayCode || (eqb k rgbCode || eqb k cmykCode)) _ h
-      (λ u. or-ind (eqb k grayCode) _ u (at k _ a) (λ v. or-ind (eqb k rgbCode) _ v (at k _ b) (at k _ c)))
-      (λ u. or-ind (eqb k 1) _ u (at k _ d) (λ v. or-ind (eqb k 2) _ v (at k _ e) (at k _ f)))
+  permits : refersTo page f n ≡ ltb 0 (countOf (numbered page g n))
+  unfolding refersTo
+  permits = rw (← device-some n) (by-size (ltb n blocks))
 
-  pub base-ind : P 5 → (k : ℕ) → baseKind k ≡ true → P k
-  unfolding baseKind
-  base-ind g k h = or-ind (alternateKind k) _ h (alternate-ind k) (at k 5 g)
+alternate-body : (y : Body) → isAlternate y ≡ ltb 0 (countOf (plainOf y))
+unfolding plainOf
+alternate-body Free = refl
+alternate-body (CalGray g) = refl
+alternate-body (CalRgb g) = refl
+alternate-body (Lab g) = refl
+alternate-body (Indexed base hival) = refl
+alternate-body (Separation p) = refl
+alternate-body Palette = refl
 
 module _ (page : List ℕ) where
-  -- a space of kind k has components, and its rank is below r
-  Lower : ℕ → ℕ → ℕ → Type 0
-  Lower b r k = (1 ≤ countOf (spaceBy k page b)) × (cond (eqb k 4) 2 (cond (eqb k 5) 1 0) < r)
+  base-body : (y : Body) → isBase y ≡ ltb 0 (countOf (tintedOf page y))
+  unfolding tintedOf plainOf
+  base-body Free = refl
+  base-body (CalGray g) = refl
+  base-body (CalRgb g) = refl
+  base-body (Lab g) = refl
+  base-body (Indexed base hival) = refl
+  base-body (Separation p) = refl
+  base-body Palette = refl
 
-  alternate-lower : (b : ℕ) → alternateKind (kindAt page b) ≡ true → (1 ≤ countOf (spaceAt page b)) × (rankAt page b < 1)
-  unfolding rankAt Lower spaceBy tintedBy plainBy
-  alternate-lower b h =
-      alternate-ind (Lower b 1) (omega arith, omega arith) (omega arith, omega arith) (omega arith, omega arith) (omega arith, omega arith)
-      (omega arith, omega arith) (omega arith, omega arith) (kindAt page b) h
+  pub alternate-permits : (n : ℕ) → refersTo page isAlternate n ≡ ltb 0 (countOf (plainAt page n))
+  alternate-permits = permits page isAlternate plainOf alternate-body
 
-  base-lower : (b : ℕ) → baseKind (kindAt page b) ≡ true → (1 ≤ countOf (spaceAt page b)) × (rankAt page b < 2)
-  unfolding rankAt Lower spaceBy tintedBy plainBy
-  base-lower b h =
-      base-ind (Lower b 2) (omega arith, omega arith) (omega arith, omega arith) (omega arith, omega arith) (omega arith, omega arith)
-      (omega arith, omega arith) (omega arith, omega arith) (omega arith, omega arith) (kindAt page b) h
+  pub base-permits : (n : ℕ) → refersTo page isBase n ≡ ltb 0 (countOf (tintedAt page n))
+  base-permits = permits page isBase (tintedOf page) base-body
 
-  inner-is : (n : ℕ) → rankAt page (referenceAt page n) < rankAt page n → innerAt page n ≡ referenceAt page n
-  unfolding innerAt
-  inner-is n l = simp (lt-ltb _ _ l)
+  -- so one that is permitted has components
+  pub alternate-some : (n : ℕ) → refersTo page isAlternate n ≡ true → 1 ≤ countOf (plainAt page n)
+  alternate-some n h = ltb-true 0 _ (rw (alternate-permits n) at h)
 
-  module _ (n : ℕ) where
-    -- the reference is the number of the space within
-    pub alternate-inner : kindAt page n ≡ 5 → alternateKind (kindAt page (referenceAt page n)) ≡ true → innerAt page n ≡ referenceAt page n
-    alternate-inner k h =
-        let r = rank-separation page n k in
-        let l = alternate-lower (referenceAt page n) h .1 in
-        inner-is n (omega arith)
+  pub base-some : (n : ℕ) → refersTo page isBase n ≡ true → 1 ≤ countOf (tintedAt page n)
+  base-some n h = ltb-true 0 _ (rw (base-permits n) at h)
 
-    pub base-inner : kindAt page n ≡ 4 → baseKind (kindAt page (referenceAt page n)) ≡ true → innerAt page n ≡ referenceAt page n
-    base-inner k h =
-        let r = rank-indexed page n k in
-        let l = base-lower (referenceAt page n) h .1 in
-        inner-is n (omega arith)
+  -- the same in the code's own terms: y is the body, and m the components of the space within
+  module _ {y : Body} {m : ℕ} where
+    pub indexed-permits : (base hival : ℕ) → y ≡ Indexed base hival → m ≡ within page y → ltb 0 m ≡ permitted page y
+    unfolding within permitted
+    indexed-permits base hival g e = ap (ltb 0) (e ∙ ap (within page) g) ∙ sym (base-permits base) ∙ sym (ap (permitted page) g)
 
-    -- the space within has components
-    pub alternate-some : kindAt page n ≡ 5 → alternateKind (kindAt page (referenceAt page n)) ≡ true → 1 ≤ countOf (spaceAt page (innerAt page n))
-    alternate-some k h = rw (alternate-inner k h) (alternate-lower (referenceAt page n) h .0)
+    pub separation-permits : (p : Ink) → y ≡ Separation p → m ≡ within page y → ltb 0 m ≡ permitted page y
+    unfolding within permitted
+    separation-permits p g e = ap (ltb 0) (e ∙ ap (within page) g) ∙ sym (alternate-permits (p .alternate)) ∙ sym (ap (permitted page) g)
 
-    pub base-some : kindAt page n ≡ 4 → baseKind (kindAt page (referenceAt page n)) ≡ true → 1 ≤ countOf (spaceAt page (innerAt page n))
-    base-some k h = rw (base-inner k h) (base-lower (referenceAt page n) h .0)
+    -- and the size of the palette is that of the Indexed body
+    pub size-within : (base hival : ℕ) {size : ℕ} → y ≡ Indexed base hival → m ≡ within page y → size ≡ paletteSize m hival
+        → size ≡ paletteSize (within page (Indexed base hival)) hival
+    size-within base hival g e h = h ∙ ap (λ (k : ℕ). paletteSize k hival) (e ∙ ap (within page) g)

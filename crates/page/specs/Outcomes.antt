@@ -8,6 +8,11 @@ pub data Outcome : Type 0 where
   accepted : Outcome
   refused : ℕ → ℕ → Outcome
 
+-- what a pass comes to, and where it refuses nothing the next one
+abbrev pub andThen : Outcome → Outcome → Outcome
+andThen accepted next = next
+andThen (refused number block) next = refused number block
+
 -- what each case of the enum `Verdict` says
 abbrev pub meaning : Verdict → Outcome
 meaning Accepted = accepted

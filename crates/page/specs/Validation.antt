@@ -1,20 +1,20 @@
 -- FORMAT.md, Refusals and Operations: validating a page. 1; then blocks upward, 2 before 3; then blocks upward again, 4, 5, 6, 7. The first found is given.
 use Prim.Native.Nat.{ℕ, zero, suc, _+_, _-_, _*_, _/_, _%_}
-use mathlib.Core.Bool.{Bool, true, _&&_, _||_, cond}
+use mathlib.Core.Bool.{Bool, true, false, _&&_, cond}
 use mathlib.Core.List.{List}
 use lib.Dec.{eqb, leb, ltb}
 use lib.ListN.{length}
 use Rattle.fixed.specs.Bytes.{blocks, device, blockAt}
-use Rattle.fixed.specs.Loops.{unless, allBetween, zeroBetween, firstFrom}
-use Rattle.record.specs.Layout.{checked}
+use Rattle.fixed.specs.Loops.{unless, allBetween, firstFrom}
+use Rattle.record.specs.Layout.{room, checked}
 use Rattle.record.specs.Reading.{ownAt, bodyAt}
-use Rattle.record.specs.Rules.{formed, lawful, supported}
+use Rattle.record.specs.Rules.{formed, lawful, supported, isPalette, paletteEnds, entriesEnd}
+use Rattle.record.specs.declared.types.Separation.{Separation as Ink}
 use Rattle.record.specs.declared.types.Body.{Body}
 use Rattle.record.specs.declared.types.Body.the-variants.{Free, CalGray, CalRgb, Lab, Indexed, Separation, Palette}
-use Rattle.space.specs.Numbers.{kindAt, referenceAt, hivalAt}
 use Rattle.space.specs.Spaces.{countOf}
-use Rattle.space.specs.Pages.{spaceAt}
-use Rattle.page.specs.Outcomes.{Outcome, accepted, refused}
+use Rattle.space.specs.Pages.{plainAt, tintedAt}
+use Rattle.page.specs.Outcomes.{Outcome, accepted, refused, andThen}
 
 -- ---- 1: the page's length is not 512 x (1..blocks)
 
@@ -29,58 +29,91 @@ faultOne page i = unless (checked (blockAt page i)) 2 (unless (formed (blockAt p
 
 -- ---- the second pass: 4 and 5 are those of a single block
 
--- 6: a reference to no block of the page, or to a kind not permitted. A Separation's alternate is a device space, CalGray, CalRGB or Lab; an Indexed base
--- may be a Separation too. A block that the page does not have is of kind 0.
-unfoldable pub alternateKind : ℕ → Bool
-alternateKind k = device k || (eqb k 1 || (eqb k 2 || eqb k 3))
+-- 6: a reference to no block of the page, or to a kind not permitted. A Separation's alternate is a device space, CalGray, CalRGB or Lab
+abbrev pub isAlternate : Body → Bool
+isAlternate Free = false
+isAlternate (CalGray g) = true
+isAlternate (CalRgb g) = true
+isAlternate (Lab g) = true
+isAlternate (Indexed base hival) = false
+isAlternate (Separation p) = false
+isAlternate Palette = false
 
-unfoldable pub baseKind : ℕ → Bool
-baseKind k = alternateKind k || eqb k 5
+-- an Indexed base may be a Separation too
+abbrev pub isBase : Body → Bool
+isBase Free = false
+isBase (CalGray g) = true
+isBase (CalRgb g) = true
+isBase (Lab g) = true
+isBase (Indexed base hival) = false
+isBase (Separation p) = true
+isBase Palette = false
+
+-- a device code, or a block that f permits; a block that the page does not have is free
+unfoldable pub refersTo : List ℕ → (Body → Bool) → ℕ → Bool
+refersTo page f n = cond (ltb n blocks) (f (bodyAt (blockAt page n))) (device n)
 
 unfoldable pub permitted : List ℕ → Body → Bool
 permitted page Free = true
 permitted page (CalGray g) = true
 permitted page (CalRgb g) = true
 permitted page (Lab g) = true
-permitted page (Indexed base hival) = baseKind (kindAt page base)
-permitted page (Separation p) = alternateKind (kindAt page (p .alternate))
+permitted page (Indexed base hival) = refersTo page isBase base
+permitted page (Separation p) = refersTo page isAlternate (p .alternate)
 permitted page Palette = true
 
--- 7, the palette run of the Indexed block i: m (hival + 1) bytes, m being the base's count, in the blocks straight after it, as few as hold them
-unfoldable pub paletteSize : List ℕ → ℕ → ℕ
-paletteSize page i = countOf (spaceAt page (referenceAt page i)) * (hivalAt page i + 1)
+-- the components of the space that a body refers to, none where it may not
+unfoldable pub within : List ℕ → Body → ℕ
+within page Free = 0
+within page (CalGray g) = 0
+within page (CalRgb g) = 0
+within page (Lab g) = 0
+within page (Indexed base hival) = countOf (tintedAt page base)
+within page (Separation p) = countOf (plainAt page (p .alternate))
+within page Palette = 0
+
+-- 7, the palette run of an Indexed block: m (hival + 1) bytes, m being the base's count, in the blocks straight after it, as few as hold them
+abbrev pub paletteSize : ℕ → ℕ → ℕ
+paletteSize m hival = m * (hival + 1)
 
 abbrev pub runLength : ℕ → ℕ
-runLength size = (size + 503) / 504
+runLength size = (size + (room - 1)) / room
 
--- all of kind 6, spare bytes of the last of them zero
+-- all of them palette blocks, spare bytes of the last of them zero
 unfoldable pub palettes : List ℕ → ℕ → ℕ → Bool
-palettes page from to = allBetween (λ k. eqb (kindAt page k) 6) from to
+palettes page from to = allBetween (λ k. isPalette (bodyAt (blockAt page k))) from to
 
 unfoldable pub runHeld : List ℕ → ℕ → ℕ → Bool
 runHeld page i size =
     palettes page (i + 1) (i + 1 + runLength size)
-    && zeroBetween (blockAt page (i + runLength size)) (4 + (size - 504 * (runLength size - 1))) 508
+    && paletteEnds (blockAt page (i + runLength size)) (size - room * (runLength size - 1))
 
--- 7, the Separation block i: C0 and C1 entries past the alternate's count m are zero
-unfoldable pub unusedZero : List ℕ → ℕ → ℕ → Bool
-unusedZero page i m = zeroBetween (blockAt page i) (136 + 4 * m) 152 && zeroBetween (blockAt page i) (152 + 4 * m) 168
+-- 7, a Separation: C0 and C1 entries past the alternate's count m are zero
+unfoldable pub unusedZero : Ink → ℕ → Bool
+unusedZero p m = entriesEnd (p .c0) m && entriesEnd (p .c1) m
 
--- 7, a stray palette block: how many blocks from block i on the last Indexed block before it still claims
-abbrev pub owedAfter : List ℕ → ℕ → ℕ → ℕ
-owedAfter page i owed = cond (eqb (kindAt page i) 4) (runLength (paletteSize page i)) (owed - 1)
+-- 7, a stray palette block: how many blocks past one whose body is y the last Indexed block before them claims
+unfoldable pub owedAfter : List ℕ → Body → ℕ → ℕ
+owedAfter page Free owed = owed - 1
+owedAfter page (CalGray g) owed = owed - 1
+owedAfter page (CalRgb g) owed = owed - 1
+owedAfter page (Lab g) owed = owed - 1
+owedAfter page (Indexed base hival) owed = runLength (paletteSize (within page (Indexed base hival)) hival)
+owedAfter page (Separation p) owed = owed - 1
+owedAfter page Palette owed = owed - 1
 
+-- and how many from block i on
 unfoldable pub owedAt : List ℕ → ℕ → ℕ
 owedAt page zero = 0
-owedAt page (suc i) = owedAfter page i (owedAt page i)
+owedAt page (suc i) = owedAfter page (bodyAt (blockAt page i)) (owedAt page i)
 
 unfoldable pub held : List ℕ → ℕ → ℕ → Body → Bool
 held page i owed Free = true
 held page i owed (CalGray g) = true
 held page i owed (CalRgb g) = true
 held page i owed (Lab g) = true
-held page i owed (Indexed base hival) = runHeld page i (paletteSize page i)
-held page i owed (Separation p) = unusedZero page i (countOf (spaceAt page (p .alternate)))
+held page i owed (Indexed base hival) = runHeld page i (paletteSize (within page (Indexed base hival)) hival)
+held page i owed (Separation p) = unusedZero p (within page (Separation p))
 held page i owed Palette = ltb 0 owed
 
 -- the second pass on block i, whose body is y, with so many blocks still claimed
@@ -93,7 +126,7 @@ faultTwo page i = faultOwed page i (owedAt page i) (bodyAt (blockAt page i))
 -- ---- the whole page, of n blocks
 
 abbrev pub passes : List ℕ → ℕ → Outcome
-passes page n = firstFrom (firstFrom accepted refused (faultTwo page) 0 n) refused (faultOne page) 0 n
+passes page n = andThen (firstFrom accepted refused (faultOne page) 0 n) (firstFrom accepted refused (faultTwo page) 0 n)
 
 unfoldable pub validated : List ℕ → Outcome
 validated page = cond (wellSized (length page)) (passes page (length page / 512)) (refused 1 0)

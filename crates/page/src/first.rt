@@ -3,10 +3,10 @@ ghost use mathlib.Core.Path.{_≡_};
 ghost use Prim.Native.Nat.{_+_, _*_, _≤_};
 ghost use lib.ListN.{length};
 ghost use Rattle.fixed.specs.Bytes.{blocks};
-ghost use Rattle.page.specs.Outcomes.{meaning};
-ghost use Rattle.page.specs.Validation.{faultOne, passes};
+ghost use Rattle.fixed.specs.Loops.{firstFrom};
+ghost use Rattle.page.specs.Outcomes.{accepted, refused, meaning};
+ghost use Rattle.page.specs.Validation.{faultOne};
 use crate::Verdict;
-use crate::second::pass_two;
 use record::is_checked;
 use record::is_formed;
 use record::own_at;
@@ -27,10 +27,10 @@ fn fault_one(page: &[u8], i: u32) -> u32
     0
 }
 
-// The first pass over n blocks, and where it finds nothing the second.
+// The first pass over n blocks.
 pub fn pass_one(page: &[u8], n: u32) -> Verdict
     requires { ⌜ (n ≤ blocks) × (512 * n ≤ length (now page)) ⌝ }
-    ensures { λ r. ⌜ meaning r ≡ passes (now (page .entry)) n ⌝ }
+    ensures { λ r. ⌜ meaning r ≡ firstFrom accepted refused (faultOne (now (page .entry))) 0 n ⌝ }
 {
     let mut i: u32 = 0;
     while i < n {
@@ -40,5 +40,5 @@ pub fn pass_one(page: &[u8], n: u32) -> Verdict
         }
         i += 1;
     }
-    pass_two(page, n)
+    Verdict::Accepted
 }

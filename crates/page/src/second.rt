@@ -1,58 +1,65 @@
 // The second pass: 4, 5, 6 and 7, block by block.
 ghost use mathlib.Core.Path.{_≡_};
-ghost use Prim.Native.Nat.{_-_, _<_, _≤_};
-ghost use Rattle.fixed.specs.Bytes.{blocks, blockAt};
+ghost use mathlib.Core.List.{List};
+ghost use Prim.Native.Nat.{ℕ, _-_, _<_, _≤_};
+ghost use Rattle.fixed.specs.Bytes.{blocks};
 ghost use Rattle.fixed.specs.Loops.{firstFrom};
 ghost use Rattle.fixed.specs.Values.{places};
 ghost use Rattle.page.specs.Outcomes.{accepted, refused, meaning};
-ghost use Rattle.page.specs.Validation.{alternateKind, baseKind, permitted, paletteSize, runLength, palettes, runHeld, unusedZero, owedAfter, held, faultOwed, faultTwo};
-ghost use Rattle.record.specs.Reading.{bodyAt};
+ghost use Rattle.page.specs.Validation.{permitted, within, paletteSize, runLength, palettes, runHeld, unusedZero, owedAfter, held, faultOwed, faultTwo};
 ghost use Rattle.space.specs.Pages.{entries};
 use crate::Verdict;
-use fixed::is_device;
-use fixed::two;
 use record::Body;
+use record::ROOM;
+use record::Separation;
 use record::body_at;
+use record::entries_end;
 use record::is_lawful;
+use record::is_palette;
 use record::is_supported;
-use record::zero_between;
-use space::components;
-use space::kind;
+use record::palette_ends;
+use space::count;
+use space::plain_at;
+use space::tinted_at;
 
-// 6: the kinds that an alternate may have, and those that a base may.
-fn is_alternate(k: u32) -> bool
-    ensures { λ r. ⌜ r ≡ alternateKind k ⌝ }
+// How many components the space has that a body refers to: 0 where it refers to none, or to one that it may not.
+fn count_within(page: &[u8], y: Body) -> u32
+    ensures is { λ r. ⌜ r ≡ within (now (page .entry)) y ⌝ }
+    ensures small { λ r. ⌜ r ≤ places ⌝ }
 {
-    is_device(k) | ((k == 1) | ((k == 2) | (k == 3)))
+    match y {
+        Body::Free => 0,
+        Body::CalGray(_) => 0,
+        Body::CalRgb(_) => 0,
+        Body::Lab(_) => 0,
+        Body::Indexed { base, hival: _ } => count(tinted_at(page, base)),
+        Body::Separation(p) => count(plain_at(page, p.alternate)),
+        Body::Palette => 0,
+    }
 }
 
-fn is_base(k: u32) -> bool
-    ensures { λ r. ⌜ r ≡ baseKind k ⌝ }
-{
-    is_alternate(k) | (k == 5)
-}
-
-// Whether the reference of a body, if it has one, is to a kind permitted: else it is refused with 6.
-fn permits(page: &[u8], y: Body) -> bool
-    ensures { λ r. ⌜ r ≡ permitted (now (page .entry)) y ⌝ }
+// Whether the reference of a body, if it has one, is permitted, m being the components of the space within: else it is refused with 6.
+fn permits(y: Body, m: u32) -> bool
+    ensures { λ r. ⌜ ((page : List ℕ) → m ≡ within page y → r ≡ permitted page y) ⌝ }
 {
     match y {
         Body::Free => true,
         Body::CalGray(_) => true,
         Body::CalRgb(_) => true,
         Body::Lab(_) => true,
-        Body::Indexed { base, hival: _ } => is_base(kind(page, base as u32)),
-        Body::Separation(p) => is_alternate(kind(page, p.alternate as u32)),
+        Body::Indexed { base: _, hival: _ } => 0 < m,
+        Body::Separation(_) => 0 < m,
         Body::Palette => true,
     }
 }
 
-// The bytes of the palette of the Indexed block i.
-fn palette_size(page: &[u8], i: u32) -> u32
-    ensures is { λ r. ⌜ r ≡ paletteSize (now (page .entry)) i ⌝ }
+// The bytes of the palette of an Indexed block, over a base of m components.
+fn palette_size(m: u32, hival: u16) -> u32
+    requires { ⌜ m ≤ places ⌝ }
+    ensures is { λ r. ⌜ r ≡ paletteSize m hival ⌝ }
     ensures small { λ r. ⌜ r ≤ entries ⌝ }
 {
-    components(page, two(page, i, 4)) * (two(page, i, 6) + 1)
+    m * (hival as u32 + 1)
 }
 
 // How few blocks hold so many bytes.
@@ -60,7 +67,7 @@ fn run_length(size: u32) -> u32
     requires { ⌜ size ≤ entries ⌝ }
     ensures { λ r. ⌜ r ≡ runLength size ⌝ }
 {
-    (size + 503) / 504
+    (size + (ROOM - 1)) / ROOM
 }
 
 // x - 1, and 0 where x is 0.
@@ -76,7 +83,7 @@ fn all_palettes(page: &[u8], from: u32, to: u32) -> bool
 {
     let mut k = from;
     while k < to {
-        if kind(page, k) != 6 {
+        if !is_palette(page, k) {
             return false;
         }
         k += 1;
@@ -90,31 +97,39 @@ fn run_held(page: &[u8], i: u32, size: u32) -> bool
     ensures { λ r. ⌜ r ≡ runHeld (now (page .entry)) i size ⌝ }
 {
     let n = run_length(size);
-    let used = 4 + (size - 504 * less(n));
-    all_palettes(page, i + 1, i + 1 + n) & zero_between(page, i + n, used, 508)
+    let used = size - ROOM * less(n);
+    all_palettes(page, i + 1, i + 1 + n) & palette_ends(page, i + n, used)
 }
 
-// Whether C0 and C1 of the Separation block i have nothing past m entries.
-fn unused_zero(page: &[u8], i: u32, m: u32) -> bool
+// Whether C0 and C1 of a Separation have nothing past m entries.
+fn unused_zero(p: Separation, m: u32) -> bool
+    ensures { λ r. ⌜ r ≡ unusedZero p m ⌝ }
+{
+    let c0 = p.c0;
+    let c1 = p.c1;
+    entries_end(c0, m) & entries_end(c1, m)
+}
+
+// The blocks that are claimed as palette after one whose body is y, over a space of m components.
+fn owed_after(y: Body, m: u32, owed: u32) -> u32
     requires { ⌜ m ≤ places ⌝ }
-    ensures { λ r. ⌜ r ≡ unusedZero (now (page .entry)) i m ⌝ }
+    ensures { λ r. ⌜ ((page : List ℕ) → m ≡ within page y → r ≡ owedAfter page y owed) ⌝ }
 {
-    zero_between(page, i, 136 + 4 * m, 152) & zero_between(page, i, 152 + 4 * m, 168)
-}
-
-// The blocks that are claimed as palette after block i.
-fn owed_after(page: &[u8], i: u32, owed: u32) -> u32
-    ensures { λ r. ⌜ r ≡ owedAfter (now (page .entry)) i owed ⌝ }
-{
-    if kind(page, i) == 4 {
-        return run_length(palette_size(page, i));
+    match y {
+        Body::Free => less(owed),
+        Body::CalGray(_) => less(owed),
+        Body::CalRgb(_) => less(owed),
+        Body::Lab(_) => less(owed),
+        Body::Indexed { base: _, hival } => run_length(palette_size(m, hival)),
+        Body::Separation(_) => less(owed),
+        Body::Palette => less(owed),
     }
-    less(owed)
 }
 
-// Whether what a body has after it and past its counts is in order, with so many blocks claimed from block i on: else it is refused with 7.
-fn holds(page: &[u8], i: u32, owed: u32, y: Body) -> bool
-    requires { ⌜ i < blocks ⌝ }
+// Whether what a body has after it and past its counts is in order, over a space of m components, with so many blocks claimed from block i on: else it is
+// refused with 7.
+fn holds(page: &[u8], i: u32, owed: u32, y: Body, m: u32) -> bool
+    requires { ⌜ (i < blocks) × (m ≤ places) × (m ≡ within (now page) y) ⌝ }
     ensures { λ r. ⌜ r ≡ held (now (page .entry)) i owed y ⌝ }
 {
     match y {
@@ -122,22 +137,21 @@ fn holds(page: &[u8], i: u32, owed: u32, y: Body) -> bool
         Body::CalGray(_) => true,
         Body::CalRgb(_) => true,
         Body::Lab(_) => true,
-        Body::Indexed { base: _, hival: _ } => run_held(page, i, palette_size(page, i)),
-        Body::Separation(p) => unused_zero(page, i, components(page, p.alternate as u32)),
+        Body::Indexed { base: _, hival } => run_held(page, i, palette_size(m, hival)),
+        Body::Separation(p) => unused_zero(p, m),
         Body::Palette => 0 < owed,
     }
 }
 
-// The first refusal of 4, 5, 6, 7 that block i meets, or 0.
-fn fault_owed(page: &[u8], i: u32, owed: u32) -> u32
-    requires { ⌜ i < blocks ⌝ }
-    ensures { λ r. ⌜ r ≡ faultOwed (now (page .entry)) i owed (bodyAt (blockAt (now (page .entry)) i)) ⌝ }
+// The first refusal of 4, 5, 6, 7 that block i meets, or 0: y is its body, and m the components of the space within.
+fn fault_owed(page: &[u8], i: u32, owed: u32, y: Body, m: u32) -> u32
+    requires { ⌜ (i < blocks) × (m ≤ places) × (m ≡ within (now page) y) ⌝ }
+    ensures { λ r. ⌜ r ≡ faultOwed (now (page .entry)) i owed y ⌝ }
 {
-    let y = body_at(page, i);
     let lawful = is_lawful(y);
     let supported = is_supported(y);
-    let permitted = permits(page, y);
-    let held = holds(page, i, owed, y);
+    let permitted = permits(y, m);
+    let held = holds(page, i, owed, y, m);
     if !lawful {
         return 4;
     }
@@ -161,11 +175,13 @@ pub fn pass_two(page: &[u8], n: u32) -> Verdict
     let mut i: u32 = 0;
     let mut owed: u32 = 0;
     while i < n {
-        let number = fault_owed(page, i, owed);
+        let y = body_at(page, i);
+        let m = count_within(page, y);
+        let number = fault_owed(page, i, owed, y, m);
         if number != 0 {
             return Verdict::Refused { number, block: i };
         }
-        owed = owed_after(page, i, owed);
+        owed = owed_after(y, m, owed);
         i += 1;
     }
     Verdict::Accepted

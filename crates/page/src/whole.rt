@@ -4,6 +4,7 @@ ghost use Rattle.page.specs.Outcomes.{meaning};
 ghost use Rattle.page.specs.Validation.{wellSized, validated};
 use crate::Verdict;
 use crate::first::pass_one;
+use crate::second::pass_two;
 use fixed::BLOCKS;
 
 // Whether a page of so many bytes is 1 to `BLOCKS` blocks.
@@ -17,12 +18,17 @@ fn is_well_sized(n: usize) -> bool
 pub fn validate(page: &[u8]) -> Verdict
     ensures { λ r. ⌜ meaning r ≡ validated (now (page .entry)) ⌝ }
 {
-    let n = page.len();
-    if is_well_sized(n) {
-        return pass_one(page, (n / 512) as u32);
+    let size = page.len();
+    if !is_well_sized(size) {
+        return Verdict::Refused {
+            number: 1,
+            block: 0,
+        };
     }
-    Verdict::Refused {
-        number: 1,
-        block: 0,
+    let n = (size / 512) as u32;
+    let v = pass_one(page, n);
+    match v {
+        Verdict::Accepted => pass_two(page, n),
+        Verdict::Refused { number, block } => Verdict::Refused { number, block },
     }
 }

@@ -16,9 +16,8 @@ use Rattle.cie.specs.declared.GrayClosing.{GrayClosing}
 use Rattle.cie.specs.Answers.{answer, inXyz}
 use Rattle.cie.specs.Closings.{calGrayOf, inThree, closed}
 use Rattle.cie.proofs.Facts.{one-float, gray-white, gray-black}
-use Rattle.space.specs.Numbers.{kindAt}
 use Rattle.space.specs.Spaces.{Space, calGray}
-use Rattle.space.specs.Pages.{plainBy, tintedBy, spaceBy, spaceAt}
+use Rattle.space.specs.Pages.{plainOf, tintedOf, spaceOf, spaceAt}
 use Rattle.page.specs.Outcomes.{Outcome, accepted}
 use Rattle.page.specs.Validation.{wellSized, faultOne, permitted, owedAt, held, faultOwed, faultTwo, validated}
 use Rattle.colour.specs.Colours.{limitedTo, valued, answered}
@@ -35,7 +34,7 @@ unfolding blockOf headOf twoBytes fourBytes padded validated wellSized faultOne 
 gray-accepted = refl
 
 gray-space : spaceAt (blockOf gray0) 0 ≡ calGray k
-unfolding blockOf headOf twoBytes fourBytes padded plain weighed total kindAt spaceBy tintedBy plainBy numberAt
+unfolding blockOf headOf twoBytes fourBytes padded plain weighed total bodyBy spaceOf tintedOf plainOf numberAt
 gray-space = refl
 
 colour : (a : ℤ) → answered (calGray k) (a ∷ []) ≡ inThree (calGrayOf k (limited (pos 0) (pos 1000000) a))

@@ -4,18 +4,16 @@ use mathlib.Core.List.{List, _++_}
 use Prim.Native.Nat.{ℕ, _+_, _*_, _≤_, _<_}
 use native.Mathlib.Nat.{mul-le-mul, le-refl}
 use native.Mathlib.Omega.{arith}
-use lib.Dec.{eqb}
 use lib.IntN.{ℤ}
 use lib.ListN.{length, length-append}
-use borrow.Author.Tests.{eqb-true}
-use Rattle.fixed.specs.Values.{longest}
-use Rattle.fixed.proofs.Decide.{cond-ind}
-use Rattle.space.specs.Numbers.{kindAt, innerAt, hivalAt, exponentAt}
 use Rattle.space.specs.Spaces.{Space, none, gray, rgb, cmyk, calGray, calRgb, lab, separation, indexed, countOf, wordsOf}
-use Rattle.space.specs.Pages.{plainBy, tableOf, c0Of, c1Of, tintedBy, tintedAt, spaceBy, spaceAt}
+use Rattle.space.specs.Pages.{tableOf, c0Of, c1Of, spaceAt}
 use Rattle.space.specs.Wholes.{rankOf, Whole}
-use Rattle.space.proofs.Levels.{plain-ind, plain-rank, tinted-ind, space-ind, by-rank}
+use Rattle.space.specs.Levels.{spaceIn, levelAt}
+use Rattle.space.specs.declared.nesting.Level.{Level}
+use Rattle.space.proofs.Levels.{level-space, space-ind, by-rank}
 use Rattle.space.proofs.Counts.{count-high, table-length, c0-length, c1-length}
+use Rattle.runner.specs.Runs.{longest}
 use Rattle.recipe.specs.Recipes.{limitsOf, stepsOf, recipeOf}
 
 -- ---- Document 01's lengths
@@ -38,26 +36,41 @@ module _ (s : Space) (r : Right s) where
       let l : length (t ++ stepsOf s) ≡ length t + length (stepsOf s) = length-append t (stepsOf s) in
       omega arith
 
+-- a plain space
+plain-length : (s : Space) → rankOf s < 1 → Right s
+unfolding recipeOf stepsOf limitsOf
+plain-length none r = refl
+plain-length gray r = refl
+plain-length rgb r = refl
+plain-length cmyk r = refl
+plain-length (calGray k) r = refl
+plain-length (calRgb k) r = refl
+plain-length (lab k al ah bl bh) r = refl
+plain-length (separation e c0 c1 s) r = absurd (omega arith)
+plain-length (indexed h t s) r = absurd (omega arith)
+
 -- a space that is well made
 pub recipe-length : (s : Space) → Whole s → length (recipeOf s) ≡ wordsOf s
-unfolding recipeOf stepsOf limitsOf Whole
-recipe-length none w = refl
-recipe-length gray w = refl
-recipe-length rgb w = refl
-recipe-length cmyk w = refl
-recipe-length (calGray k) w = refl
-recipe-length (calRgb k) w = refl
-recipe-length (lab k al ah bl bh) w = refl
+unfolding Whole
+recipe-length none w = plain-length none (omega arith)
+recipe-length gray w = plain-length gray (omega arith)
+recipe-length rgb w = plain-length rgb (omega arith)
+recipe-length cmyk w = plain-length cmyk (omega arith)
+recipe-length (calGray k) w = plain-length (calGray k) (omega arith)
+recipe-length (calRgb k) w = plain-length (calRgb k) (omega arith)
+recipe-length (lab k al ah bl bh) w = plain-length (lab k al ah bl bh) (omega arith)
 recipe-length (separation e c0 c1 s) w = separation-length s (recipe-length s (w .4)) e c0 c1 (w .1) (w .2)
 recipe-length (indexed h t s) w = indexed-length s (recipe-length s (w .3)) h t (w .1)
 
 -- every space on a page, whatever the page
 pub length-at : (page : List ℕ) (n : ℕ) → length (recipeOf (spaceAt page n)) ≡ wordsOf (spaceAt page n)
-unfolding recipeOf stepsOf limitsOf
 length-at page =
-    space-ind page Right (λ n. plain-ind page n Right refl refl refl refl (λ _. refl) (λ _. refl) (λ _ _ _ _ _. refl))
-    (λ n s _ r. separation-length s r (exponentAt page n) (c0Of page n s) (c1Of page n s) (c0-length page n s) (c1-length page n s))
-    (λ n s r. indexed-length s r (hivalAt page n) (tableOf page n s) (table-length page n s))
+    space-ind page Right plain-length (λ p s _ r. separation-length s r (p .exponent) (c0Of p s) (c1Of p s) (c0-length p s) (c1-length p s))
+    (λ n hival s r. indexed-length s r hival (tableOf page n hival s) (table-length page n hival s))
+
+-- and so of the level at its number
+pub length-in : (page : List ℕ) (n : ℕ) {l : Level} → l ≡ levelAt page n → length (recipeOf (spaceIn page l)) ≡ wordsOf (spaceIn page l)
+length-in page n e = rw (level-space page n e) (length-at page n)
 
 -- ---- The longest
 
@@ -101,19 +114,3 @@ words-short =
 
 pub recipe-short : (s : Space) → Whole s → length (recipeOf s) ≤ longest
 recipe-short s w = rw (recipe-length s w) (words-short s w)
-
--- and none on a page, where an Indexed has hival 255 at most
-module _ (page : List ℕ) where
-  tinted-few : (n k : ℕ) → Few (tintedBy k page n)
-  tinted-few = tinted-ind page Few (λ n k. plain-few (plainBy k page n) (plain-rank page n k) .1) (λ n s r _. separation-few (exponentAt page n) (c0Of page n s) (c1Of page n s) s r)
-
-  words-longest : (n : ℕ) → (kindAt page n ≡ 4 → hivalAt page n ≤ 255) → wordsOf (spaceAt page n) ≤ longest
-  unfolding spaceBy
-  words-longest n hival =
-      let base = tintedAt page (innerAt page n) in
-      cond-ind (λ (s : Space). wordsOf s ≤ longest) (eqb (kindAt page n) 4)
-      (λ t. indexed-few (hivalAt page n) (tableOf page n base) base (hival (eqb-true _ _ t)) (tinted-few (innerAt page n) (kindAt page (innerAt page n))))
-      (λ _. omega (arith, tinted-few n (kindAt page n)))
-
-  pub recipe-longest : (n : ℕ) → (kindAt page n ≡ 4 → hivalAt page n ≤ 255) → length (recipeOf (spaceAt page n)) ≤ longest
-  recipe-longest n hival = rw (length-at page n) (words-longest n hival)

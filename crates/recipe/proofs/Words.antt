@@ -1,20 +1,21 @@
 -- The parts of a recipe: their lengths, and their words as runs of stores.
-use mathlib.Core.Path.{_≡_, refl, ap, ap₂, _∙_}
+use mathlib.Core.Path.{_≡_, refl, sym, ap, ap₂, _∙_}
 use mathlib.Core.List.{List, [], _∷_, _++_}
-use Prim.Native.Nat.{ℕ, zero, suc, _+_, _*_, _≤_}
+use Prim.Native.Nat.{ℕ, zero, suc, _+_, _*_, _≤_, _<_}
 use native.Mathlib.Numerals.{add-one}
 use native.Mathlib.Omega.{arith}
 use lib.IntN.{ℤ, pos}
-use lib.ListN.{length, length-append}
-use lib.Seq.{sets}
-use Rattle.fixed.specs.Values.{listed}
-use Rattle.fixed.proofs.Listed.{listed-length}
+use lib.ListN.{length, take, length-append}
+use lib.Seq.{sets, ext-getD, getD-take, length-take-le}
+use Rattle.fixed.specs.Values.{value, listed}
+use Rattle.fixed.proofs.Listed.{listed-length, listed-value}
 use Rattle.fixed.proofs.Stores.{then}
 use Rattle.cie.specs.declared.Closing.{Closing}
-use Rattle.space.specs.Numbers.{innerAt, hivalAt, exponentAt}
+use Rattle.record.specs.Layout.{entriesOf}
+use Rattle.record.specs.declared.types.Separation.{Separation as Ink}
 use Rattle.space.specs.Spaces.{Space, countOf, lowOf, highOf, closingOf}
-use Rattle.space.specs.Pages.{spaceAt, entryOf, tableOf, c0At, c1At, c0Of, c1Of}
-use Rattle.space.proofs.Counts.{table-length, c0-length, c1-length}
+use Rattle.space.specs.Pages.{entryOf, tableOf}
+use Rattle.space.proofs.Counts.{table-length}
 use Rattle.recipe.specs.Recipes.{limitWords, limitsOf, closingWords, endsOf}
 use Rattle.recipe.specs.Parts.{rowWords, tintWords}
 
@@ -58,65 +59,64 @@ rgb-set d at ga gb gc xa ya za xb yb zb xc yc zc eu ex ey ez =
     let y' = then (pos 8 ∷ ga ∷ gb ∷ gc ∷ xa ∷ ya ∷ za ∷ []) d at (at + 7) (xb ∷ yb ∷ zb ∷ []) refl x' ey in
     then (pos 8 ∷ ga ∷ gb ∷ gc ∷ xa ∷ ya ∷ za ∷ xb ∷ yb ∷ zb ∷ []) d at (at + 10) (xc ∷ yc ∷ zc ∷ []) refl y' ez
 
--- ---- Steps 2 and 3, over the space at the inner number, which the code has as b, of m components
+-- ---- Step 2, over a base s of m components
 
-module _ (page : List ℕ) (n b m : ℕ) (em : m ≡ countOf (spaceAt page b)) (eb : b ≡ innerAt page n) where
-  abbrev base : Space
-  base = spaceAt page (innerAt page n)
-
-  counted : m ≡ countOf base
-  counted = em ∙ ap (λ (i : ℕ). countOf (spaceAt page i)) eb
-
-  row-length : (h : ℕ) → h ≡ hivalAt page n → length (rowWords page n base) ≡ 3 + m * (h + 1)
+module _ (page : List ℕ) (n h m : ℕ) (s : Space) (em : m ≡ countOf s) where
+  row-length : length (rowWords page n h s) ≡ 3 + m * (h + 1)
   unfolding rowWords
-  row-length h eh = let e = table-length page n base in rw (counted, eh) (omega arith)
-
-  tint-length : length (tintWords page n base) ≡ 3 + 2 * m
-  unfolding tintWords
-  tint-length =
-      let e = length-append (c0Of page n base) (c1Of page n base) in
-      omega (arith, c0-length page n base, c1-length page n base, counted)
+  row-length = let e = table-length page n h s in rw em (omega arith)
 
   module _ (at : ℕ) (d : List ℤ) where
-    pub row-fits : (h : ℕ) → h ≡ hivalAt page n → at + length (rowWords page n base) ≤ length d → at + 3 + m * (h + 1) ≤ length d
-    row-fits h eh r = let e = row-length h eh in omega arith
+    pub row-fits : at + length (rowWords page n h s) ≤ length d → at + 3 + m * (h + 1) ≤ length d
+    row-fits r = let e = row-length in omega arith
 
-    pub tint-fits : at + length (tintWords page n base) ≤ length d → at + 3 + m + m ≤ length d
-    tint-fits r = let e = tint-length in omega arith
-
-    module _ (h : ℕ) (eh : h ≡ hivalAt page n) (u : List ℤ) (w₁ w₂ : ℤ) (e₁ : w₁ ≡ pos m) (e₂ : w₂ ≡ pos h) (eu : u ≡ sets d at (pos 2 ∷ w₁ ∷ w₂ ∷ [])) where
-      row-stored : (y : List ℤ) → y ≡ sets u (at + 3) (listed (entryOf page n (spaceAt page b)) (m * (h + 1))) → y ≡ sets d at (rowWords page n base)
+    module _ (u : List ℤ) (w₁ w₂ : ℤ) (e₁ : w₁ ≡ pos m) (e₂ : w₂ ≡ pos h) (eu : u ≡ sets d at (pos 2 ∷ w₁ ∷ w₂ ∷ [])) where
+      row-stored : (y : List ℤ) → y ≡ sets u (at + 3) (listed (entryOf page n s) (m * (h + 1))) → y ≡ sets d at (rowWords page n h s)
       unfolding rowWords tableOf
       row-stored y ey =
-          then (pos 2 ∷ w₁ ∷ w₂ ∷ []) d at (at + 3) (listed (entryOf page n (spaceAt page b)) (m * (h + 1))) refl eu ey ∙
-          rw (e₁, e₂, eh)
-          (ap (λ (j : ℕ). sets d at (pos 2 ∷ pos j ∷ pos (hivalAt page n) ∷ listed (entryOf page n (spaceAt page b)) (j * (hivalAt page n + 1)))) counted ∙
-          ap (λ (i : ℕ). sets d at (pos 2 ∷ pos (countOf base) ∷ pos (hivalAt page n) ∷ listed (entryOf page n (spaceAt page i)) (countOf base * (hivalAt page n + 1)))) eb)
+          then (pos 2 ∷ w₁ ∷ w₂ ∷ []) d at (at + 3) (listed (entryOf page n s) (m * (h + 1))) refl eu ey ∙
+          rw (e₁, e₂) (ap (λ (j : ℕ). sets d at (pos 2 ∷ pos j ∷ pos h ∷ listed (entryOf page n s) (j * (h + 1)))) em)
 
       -- the words, and the place after them
-      pub row-set : (y : List ℤ) → y ≡ sets u (at + 3) (listed (entryOf page n (spaceAt page b)) (m * (h + 1)))
-          → (y ≡ sets d at (rowWords page n base)) × (at + 3 + m * (h + 1) ≡ at + length (rowWords page n base))
-      row-set y ey = let e = row-length h eh in (row-stored y ey, omega arith)
+      pub row-set : (y : List ℤ) → y ≡ sets u (at + 3) (listed (entryOf page n s) (m * (h + 1)))
+          → (y ≡ sets d at (rowWords page n h s)) × (at + 3 + m * (h + 1) ≡ at + length (rowWords page n h s))
+      row-set y ey = let e = row-length in (row-stored y ey, omega arith)
 
       -- over nothing there are no entries
-      pub row-none : m ≡ 0 → (u ≡ sets d at (rowWords page n base)) × (at + 3 ≡ at + length (rowWords page n base))
+      pub row-none : m ≡ 0 → (u ≡ sets d at (rowWords page n h s)) × (at + 3 ≡ at + length (rowWords page n h s))
       unfolding listed
       row-none z = let k : m * (h + 1) ≡ 0 = rw z (omega arith) in let r = row-set u (rw k) in (r .0, omega (arith, r .1))
 
-    module _ (u y z : List ℤ) (w₁ w₂ : ℤ) (e₁ : w₁ ≡ pos (exponentAt page n)) (e₂ : w₂ ≡ pos m) (eu : u ≡ sets d at (pos 3 ∷ w₁ ∷ w₂ ∷ []))
-        (ey : y ≡ sets u (at + 3) (listed (λ k. c0At page n k) m)) (ez : z ≡ sets y (at + 3 + m) (listed (λ k. c1At page n k) m)) where
-      tint-stored : z ≡ sets d at (tintWords page n base)
-      unfolding tintWords c0Of c1Of
+-- ---- Step 3, over an alternate of m components
+
+-- the first m of a list are those at the places below m
+pub taken : (l : List ℤ) (m : ℕ) → m ≤ length l → listed (value l) m ≡ take m l
+taken l m h =
+    ext-getD (pos 0) (listed (value l) m) (take m l) (listed-length (value l) m ∙ sym (length-take-le m l h))
+    (λ k lt. let w : k < m = rw (listed-length (value l) m) at lt in listed-value (value l) m k w ∙ sym (getD-take m l k (pos 0) w))
+
+module _ (p : Ink) (m : ℕ) (few : m ≤ 4) where
+  tint-length : length (tintWords p m) ≡ 3 + 2 * m
+  unfolding tintWords
+  tint-length =
+      let e = length-append (take m (entriesOf (p .c0))) (take m (entriesOf (p .c1))) in
+      omega (arith, length-take-le m (entriesOf (p .c0)) few, length-take-le m (entriesOf (p .c1)) few)
+
+  module _ (at : ℕ) (d : List ℤ) where
+    pub tint-fits : at + length (tintWords p m) ≤ length d → at + 3 + m + m ≤ length d
+    tint-fits r = let e = tint-length in omega arith
+
+    module _ (u y z a b : List ℤ) (w₁ w₂ : ℤ) (e₁ : w₁ ≡ pos (p .exponent)) (e₂ : w₂ ≡ pos m) (ea : a ≡ entriesOf (p .c0)) (eb : b ≡ entriesOf (p .c1))
+        (eu : u ≡ sets d at (pos 3 ∷ w₁ ∷ w₂ ∷ [])) (ey : y ≡ sets u (at + 3) (listed (value a) m)) (ez : z ≡ sets y (at + 3 + m) (listed (value b) m)) where
+      tint-stored : z ≡ sets d at (tintWords p m)
+      unfolding tintWords
       tint-stored =
           let hd : List ℤ = pos 3 ∷ w₁ ∷ w₂ ∷ [] in
-          let f : List ℤ = listed (λ k. c0At page n k) m in
-          let g : List ℤ = listed (λ k. c1At page n k) m in
+          let f : List ℤ = listed (value a) m in
           let y' : y ≡ sets d at (hd ++ f) = then hd d at (at + 3) f refl eu ey in
           let l : at + 3 + m ≡ at + length (hd ++ f) = let q : length f ≡ m = listed-length _ m in omega arith in
-          let z' : z ≡ sets d at ((hd ++ f) ++ g) = then (hd ++ f) d at (at + 3 + m) g l y' ez in
-          z' ∙
-          rw (e₁, e₂)
-          (ap (λ (j : ℕ). sets d at (pos 3 ∷ pos (exponentAt page n) ∷ pos j ∷ (listed (λ k. c0At page n k) j ++ listed (λ k. c1At page n k) j))) counted)
+          let z' : z ≡ sets d at ((hd ++ f) ++ listed (value b) m) = then (hd ++ f) d at (at + 3 + m) (listed (value b) m) l y' ez in
+          z' ∙ rw (e₁, e₂, ea, eb, taken (entriesOf (p .c0)) m few, taken (entriesOf (p .c1)) m few)
 
-      pub tint-set : (z ≡ sets d at (tintWords page n base)) × (at + 3 + 2 * m ≡ at + length (tintWords page n base))
+      pub tint-set : (z ≡ sets d at (tintWords p m)) × (at + 3 + 2 * m ≡ at + length (tintWords p m))
       tint-set = let e = tint-length in (tint-stored, omega arith)

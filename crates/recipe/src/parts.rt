@@ -3,106 +3,117 @@ ghost use mathlib.Core.Path.{_≡_};
 ghost use Prim.Native.Nat.{_+_, _*_, _<_, _≤_};
 ghost use lib.ListN.{length};
 ghost use lib.Seq.{sets};
-ghost use Rattle.fixed.specs.Bytes.{blocks, blockAt, numberAt};
-ghost use Rattle.fixed.specs.Values.{places, listed};
-ghost use Rattle.space.specs.Numbers.{innerAt};
-ghost use Rattle.space.specs.Spaces.{countOf};
-ghost use Rattle.space.specs.Pages.{spaceAt, entries, entryOf};
+ghost use Rattle.fixed.specs.Values.{places, value, listed};
+ghost use Rattle.space.specs.Spaces.{Space};
+ghost use Rattle.space.specs.Pages.{entries, entryOf};
+ghost use Rattle.space.specs.Levels.{plainIn, spaceIn, Ranged};
 ghost use Rattle.recipe.specs.Recipes.{limitsOf, endsOf};
 ghost use Rattle.recipe.specs.Parts.{rowWords, tintWords};
 use crate::closings::put_closing;
 use crate::stores::put3;
 use crate::stores::put4;
 use crate::stores::word_of;
-use fixed::byte;
-use fixed::number;
-use fixed::two;
-use space::closing_at;
-use space::components;
+use cie::Closing;
+use fixed::VALUES;
+use record::Ranges;
+use record::Separation;
+use record::entries_of;
+use space::Level;
+use space::count;
 use space::entry;
-use space::high;
-use space::inner;
-use space::low;
+use space::highs;
+use space::lows;
+use space::plain_count;
+use space::plain_highs;
+use space::plain_lows;
 
-// The first `count` entries of the table of the Indexed block n over the base b, of m components.
-fn put_table(page: &[u8], n: u32, b: u32, m: u32, count: u32, words: &mut [i32], at: usize)
-    requires { ⌜ (n < blocks) × (count ≤ entries) × (at + count ≤ length (now words)) × (0 < m) × (m ≡ countOf (spaceAt (now page) b)) ⌝ }
-    ensures { λ _. ⌜ now (words .exit) ≡ sets (now (words .entry)) at (listed (entryOf (now (page .entry)) n (spaceAt (now (page .entry)) b)) count) ⌝ }
+// The first `size` entries of the table of the Indexed block n, over a space of m components, whose ranges are from lo to hi.
+fn put_table(
+    page: &[u8],
+    n: u16,
+    m: u32,
+    lo: [i32; VALUES],
+    hi: [i32; VALUES],
+    size: u32,
+    words: &mut [i32],
+    at: usize,
+)
+    requires { ⌜ (size ≤ entries) × (at + size ≤ length (now words)) × (0 < m) × (m ≤ places) ⌝ }
+    ensures { λ _. ⌜ ((s : Space) → Ranged s m lo hi → now (words .exit) ≡ sets (now (words .entry)) at (listed (entryOf (now (page .entry)) n s) size)) ⌝ }
 {
     let mut j: u32 = 0;
-    while j < count {
-        let x = entry(page, n, b, m, j);
+    while j < size {
+        let x = entry(page, n, m, lo, hi, j);
         words[at + (j as usize)] = x;
         j += 1;
     }
 }
 
-// m numbers of block n, from its byte `from` on.
-fn put_numbers(page: &[u8], n: u32, from: u32, m: u32, words: &mut [i32], at: usize)
-    requires { ⌜ (m ≤ places) × (from ≤ 400) × (at + m ≤ length (now words)) ⌝ }
-    ensures { λ _. ⌜ now (words .exit) ≡ sets (now (words .entry)) at (listed (λ k. numberAt (blockAt (now (page .entry)) n) (from + 4 * k)) m) ⌝ }
+// The first m entries of C0 or C1.
+fn put_entries(a: [i32; 4], m: u32, words: &mut [i32], at: usize)
+    requires { ⌜ (m ≤ places) × (at + m ≤ length (now words)) ⌝ }
+    ensures { λ _. ⌜ now (words .exit) ≡ sets (now (words .entry)) at (listed (value a) m) ⌝ }
 {
-    let mut j: u32 = 0;
-    while j < m {
-        let x = number(page, n, from + 4 * j);
-        words[at + (j as usize)] = x;
+    let mut j: usize = 0;
+    while j < m as usize {
+        let x = a[j];
+        words[at + j] = x;
         j += 1;
     }
 }
 
-// The limits of the first m components.
-fn put_limits(page: &[u8], n: u32, m: u32, words: &mut [i32], at: usize)
+// The limits of the first m components, whose ranges are from lo to hi.
+fn put_limits(m: u32, lo: [i32; VALUES], hi: [i32; VALUES], words: &mut [i32], at: usize)
     requires { ⌜ (m ≤ places) × (at + 4 * m ≤ length (now words)) ⌝ }
-    ensures { λ _. ⌜ now (words .exit) ≡ sets (now (words .entry)) at (limitsOf (spaceAt (now (page .entry)) n) m) ⌝ }
+    ensures { λ _. ⌜ ((s : Space) → Ranged s m lo hi → now (words .exit) ≡ sets (now (words .entry)) at (limitsOf s m)) ⌝ }
 {
     let mut k: u32 = 0;
     while k < m {
         let w = word_of(k);
-        let lo = low(page, n, k);
-        let hi = high(page, n, k);
-        put4(words, at + 4 * (k as usize), 1, w, lo, hi);
+        let i = k as usize;
+        put4(words, at + 4 * i, 1, w, lo[i], hi[i]);
         k += 1;
     }
 }
 
 // The limits and the closing step of a plain space.
-pub fn put_ends(page: &[u8], n: u32, words: &mut [i32], at: usize)
-    requires { ⌜ at + length (endsOf (spaceAt (now page) n)) ≤ length (now words) ⌝ }
-    ensures { λ _. ⌜ now (words .exit) ≡ sets (now (words .entry)) at (endsOf (spaceAt (now (page .entry)) n)) ⌝ }
+pub fn put_ends(c: Closing, q: Ranges, words: &mut [i32], at: usize)
+    requires { ⌜ at + length (endsOf (plainIn c q)) ≤ length (now words) ⌝ }
+    ensures { λ _. ⌜ now (words .exit) ≡ sets (now (words .entry)) at (endsOf (plainIn c q)) ⌝ }
 {
-    let m = components(page, n);
-    put_limits(page, n, m, words, at);
-    put_closing(closing_at(page, n), words, at + 4 * (m as usize));
+    let m = plain_count(c);
+    put_limits(m, plain_lows(c, q), plain_highs(c, q), words, at);
+    put_closing(c, words, at + 4 * (m as usize));
 }
 
-// Step 2 of the Indexed block n, from `at` on; the place after it.
-pub fn put_row(page: &[u8], n: u32, words: &mut [i32], at: usize) -> usize
-    requires { ⌜ (n < blocks) × (at + length (rowWords (now page) n (spaceAt (now page) (innerAt (now page) n))) ≤ length (now words)) ⌝ }
-    ensures stores { λ _. ⌜ now (words .exit) ≡ sets (now (words .entry)) at (rowWords (now (page .entry)) n (spaceAt (now (page .entry)) (innerAt (now (page .entry)) n))) ⌝ }
-    ensures next { λ r. ⌜ r ≡ at + length (rowWords (now (page .entry)) n (spaceAt (now (page .entry)) (innerAt (now (page .entry)) n))) ⌝ }
+// Step 2 of the Indexed block n over its base s, from `at` on; the place after it.
+pub fn put_row(page: &[u8], n: u16, hival: u16, s: Level, words: &mut [i32], at: usize) -> usize
+    requires { ⌜ at + length (rowWords (now page) n hival (spaceIn (now page) s)) ≤ length (now words) ⌝ }
+    ensures stores { λ _. ⌜ now (words .exit) ≡ sets (now (words .entry)) at (rowWords (now (page .entry)) n hival (spaceIn (now (page .entry)) s)) ⌝ }
+    ensures next { λ r. ⌜ r ≡ at + length (rowWords (now (page .entry)) n hival (spaceIn (now (page .entry)) s)) ⌝ }
 {
-    let b = inner(page, n);
-    let m = components(page, b);
-    let h = two(page, n, 6);
+    let m = count(s);
+    let h = hival as u32;
     put3(words, at, 2, word_of(m), word_of(h));
     if m == 0 {
         return at + 3;
     }
-    let count = m * (h + 1);
-    put_table(page, n, b, m, count, words, at + 3);
-    at + 3 + (count as usize)
+    let size = m * (h + 1);
+    put_table(page, n, m, lows(s), highs(s), size, words, at + 3);
+    at + 3 + (size as usize)
 }
 
-// Step 3 of the Separation block n, from `at` on; the place after it.
-pub fn put_tint(page: &[u8], n: u32, words: &mut [i32], at: usize) -> usize
-    requires { ⌜ at + length (tintWords (now page) n (spaceAt (now page) (innerAt (now page) n))) ≤ length (now words) ⌝ }
-    ensures stores { λ _. ⌜ now (words .exit) ≡ sets (now (words .entry)) at (tintWords (now (page .entry)) n (spaceAt (now (page .entry)) (innerAt (now (page .entry)) n))) ⌝ }
-    ensures next { λ r. ⌜ r ≡ at + length (tintWords (now (page .entry)) n (spaceAt (now (page .entry)) (innerAt (now (page .entry)) n))) ⌝ }
+// Step 3 of a Separation over an alternate of m components, from `at` on; the place after it.
+pub fn put_tint(p: Separation, m: u32, words: &mut [i32], at: usize) -> usize
+    requires { ⌜ (m ≤ places) × (at + length (tintWords p m) ≤ length (now words)) ⌝ }
+    ensures stores { λ _. ⌜ now (words .exit) ≡ sets (now (words .entry)) at (tintWords p m) ⌝ }
+    ensures next { λ r. ⌜ r ≡ at + length (tintWords p m) ⌝ }
 {
-    let m = components(page, inner(page, n));
-    let e = word_of(byte(page, n, 6));
+    let c0 = p.c0;
+    let c1 = p.c1;
+    let e = word_of(p.exponent as u32);
     put3(words, at, 3, e, word_of(m));
-    put_numbers(page, n, 136, m, words, at + 3);
-    put_numbers(page, n, 152, m, words, at + 3 + (m as usize));
+    put_entries(entries_of(c0), m, words, at + 3);
+    put_entries(entries_of(c1), m, words, at + 3 + (m as usize));
     at + 3 + 2 * (m as usize)
 }

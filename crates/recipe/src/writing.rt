@@ -4,6 +4,7 @@ ghost use Prim.Native.Nat.{_+_, _≤_};
 ghost use lib.ListN.{length};
 ghost use lib.Seq.{sets};
 ghost use Rattle.space.specs.Pages.{spaceAt};
+ghost use Rattle.space.specs.Levels.{spaceIn};
 ghost use Rattle.recipe.specs.Recipes.{stepsOf};
 ghost use Rattle.recipe.specs.Writes.{meaning, replied, left};
 use crate::Written;
@@ -11,27 +12,33 @@ use crate::parts::put_ends;
 use crate::parts::put_row;
 use crate::parts::put_tint;
 use crate::stores::word_of;
-use space::components;
-use space::inner;
-use space::kind;
+use space::Level;
+use space::count;
+use space::level_at;
+use space::plain_at;
+use space::tinted_at;
+use space::words_in;
 
-// The steps of the space at a number, from `at` on. It calls itself on the space within, whose rank is lower.
-fn put_steps(page: &[u8], n: u32, words: &mut [i32], at: usize)
-    requires { ⌜ at + length (stepsOf (spaceAt (now page) n)) ≤ length (now words) ⌝ }
-    ensures { λ _. ⌜ now (words .exit) ≡ sets (now (words .entry)) at (stepsOf (spaceAt (now (page .entry)) n)) ⌝ }
+// The steps of a level's space, from `at` on. It calls itself on the level within, whose rank is lower.
+fn put_steps(page: &[u8], l: Level, words: &mut [i32], at: usize)
+    requires { ⌜ at + length (stepsOf (spaceIn (now page) l)) ≤ length (now words) ⌝ }
+    ensures { λ _. ⌜ now (words .exit) ≡ sets (now (words .entry)) at (stepsOf (spaceIn (now (page .entry)) l)) ⌝ }
 {
-    let k = kind(page, n);
-    if k == 4 {
-        let next = put_row(page, n, words, at);
-        put_steps(page, inner(page, n), words, next);
-        return;
+    match l {
+        Level::Plain(c, q) => {
+            put_ends(c, q, words, at);
+        }
+        Level::Separation(p) => {
+            let s = plain_at(page, p.alternate);
+            let next = put_tint(p, count(s), words, at);
+            put_steps(page, s, words, next);
+        }
+        Level::Indexed { block, base, hival } => {
+            let s = tinted_at(page, base);
+            let next = put_row(page, block, hival, s, words, at);
+            put_steps(page, s, words, next);
+        }
     }
-    if k == 5 {
-        let next = put_tint(page, n, words, at);
-        put_steps(page, inner(page, n), words, next);
-        return;
-    }
-    put_ends(page, n, words, at);
 }
 
 // Writes the recipe of the space at a number of a page: 8 where there is no space, then 10 where the words lent are too few. Words past the recipe
@@ -40,14 +47,15 @@ pub fn write_space(page: &[u8], n: u32, words: &mut [i32]) -> Written
     ensures { λ r. ⌜ meaning r ≡ replied (spaceAt (now (page .entry)) n) (now (words .entry)) ⌝ }
     ensures { λ r. ⌜ now (words .exit) ≡ left (spaceAt (now (page .entry)) n) (now (words .entry)) ⌝ }
 {
-    let m = components(page, n);
+    let l = level_at(page, n);
+    let m = count(l);
     if m == 0 {
         return Written::Refused {
             number: 8,
             block: 0,
         };
     }
-    let size = space::words(page, n);
+    let size = words_in(page, l);
     if words.len() < (size as usize) {
         return Written::Refused {
             number: 10,
@@ -55,6 +63,6 @@ pub fn write_space(page: &[u8], n: u32, words: &mut [i32]) -> Written
         };
     }
     words[0] = word_of(m);
-    put_steps(page, n, words, 1);
+    put_steps(page, l, words, 1);
     Written::Words(size)
 }

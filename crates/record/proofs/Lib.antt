@@ -4,3 +4,4 @@ pub mod Runs
 pub mod Fours
 pub mod Ranges
 pub mod Shapes
+pub mod Same

@@ -3,6 +3,7 @@ use mathlib.Core.List.{List, [], _∷_, _++_}
 use mathlib.Core.Bool.{Bool, _&&_}
 use Prim.Native.Nat.{ℕ, _+_, _-_, _*_, _%_}
 use lib.Dec.{eqb}
+use lib.IntN.{ℤ}
 use Rattle.fixed.specs.Bytes.{byteAt, twoAt}
 use Rattle.fixed.specs.Loops.{total}
 use Rattle.layout.specs.Field.{Field, one, two, num, run, gap, sizes, written}
@@ -23,6 +24,10 @@ ranges q fs = num (q .amin) ∷ num (q .amax) ∷ num (q .bmin) ∷ num (q .bmax
 abbrev pub four : Four → List Field → List Field
 four q fs = num (q .a) ∷ num (q .b) ∷ num (q .c) ∷ num (q .d) ∷ fs
 
+-- the entries of C0 or C1, in their order
+abbrev pub entriesOf : Four → List ℤ
+entriesOf q = q .a ∷ q .b ∷ q .c ∷ q .d ∷ []
+
 -- the column "kind" of the table of kinds
 abbrev pub kindOf : Body → ℕ
 kindOf Free = 0
@@ -33,7 +38,11 @@ kindOf (Indexed base hival) = 4
 kindOf (Separation p) = 5
 kindOf Palette = 6
 
--- the column "body", from byte 4 on; s is the record's room of 504 bytes, with the name in its first 128 places, or the palette
+-- how many bytes the room of a record has, and a block's part of a palette
+abbrev pub room : ℕ
+room = 504
+
+-- the column "body", from byte 4 on; s is the record's room, with the name in its first 128 places, or the palette
 abbrev pub body : Body → List ℕ → List Field
 body Free s = []
 body (CalGray g) s = triple (g .white) (triple (g .black) (num (g .gamma) ∷ []))
@@ -42,7 +51,7 @@ body (Lab g) s = triple (g .white) (triple (g .black) (ranges (g .range) []))
 body (Indexed base hival) s = two base ∷ two hival ∷ []
 body (Separation p) s =
     two (p .alternate) ∷ one (p .exponent) ∷ one (p .«name_len») ∷ run 128 s ∷ four (p .c0) (four (p .c1) [])
-body Palette s = run 504 s ∷ []
+body Palette s = run room s ∷ []
 
 -- the byte past the last that the body names
 abbrev pub namedTo : Body → ℕ

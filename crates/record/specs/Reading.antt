@@ -6,6 +6,7 @@ use lib.ListN.{drop, replicate}
 use lib.Dec.{eqb}
 use Rattle.fixed.specs.Bytes.{byteAt, twoAt, numberAt}
 use Rattle.layout.specs.Field.{padded}
+use Rattle.record.specs.Layout.{room}
 use Rattle.record.specs.declared.types.Triple.{Triple}
 use Rattle.record.specs.declared.types.Ranges.{Ranges}
 use Rattle.record.specs.declared.types.Four.{Four}
@@ -73,13 +74,17 @@ bodyBy k b =
 abbrev pub bodyAt : List ℕ → Body
 bodyAt b = bodyBy (kindAt b) b
 
--- n bytes from `at` on, with zeros after them: a record's room of 504 bytes
+-- n bytes from `at` on, with zeros after them: a record's room
 abbrev pub runAt : List ℕ → ℕ → ℕ → List ℕ
-runAt b at n = padded n (drop at b) ++ replicate (504 - n) 0
+runAt b at n = padded n (drop at b) ++ replicate (room - n) 0
 
--- the room of a block of kind k: name 8, or the palette's 504 bytes
+-- the room of a block of kind k: name 8, or the part of a palette
 unfoldable pub bytesBy : ℕ → List ℕ → List ℕ
-bytesBy k b = cond (eqb k 5) (runAt b 8 128) (cond (eqb k 6) (runAt b 4 504) (replicate 504 0))
+bytesBy k b = cond (eqb k 5) (runAt b 8 128) (cond (eqb k 6) (runAt b 4 room) (replicate room 0))
+
+-- byte k of the part of a palette
+abbrev pub paletteAt : List ℕ → ℕ → ℕ
+paletteAt b k = byteAt b (4 + k)
 
 -- the record that a block holds
 unfoldable pub recordAt : List ℕ → Record

@@ -1,20 +1,26 @@
 -- FORMAT.md, Refusals, Clause rules, and Sizes and house limits: what is refused of a record and of a block, each number in its place.
 use mathlib.Core.List.{List}
-use mathlib.Core.Bool.{Bool, true, _&&_, _||_, cond, not}
+use mathlib.Core.Bool.{Bool, true, false, _&&_, _||_, cond, not}
 use Prim.Native.Nat.{ℕ, _+_}
 use lib.Dec.{eqb, leb, ltb}
-use lib.IntN.{pos}
+use lib.IntN.{ℤ, pos}
 use lib.Signed.{ltZ, leZ}
 use Rattle.fixed.specs.Numbers.{gammaSupported, exponentSupported}
 use Rattle.fixed.specs.Bytes.{blocks, byteAt, device}
 use Rattle.fixed.specs.Loops.{unless, allBetween, zeroBetween}
-use Rattle.record.specs.Layout.{namedTo}
+use Rattle.fixed.specs.Values.{value}
+use Rattle.record.specs.Layout.{room, namedTo, entriesOf}
 use Rattle.record.specs.Reading.{kindAt, bodyAt, recordAt}
 use Rattle.record.specs.declared.types.Triple.{Triple}
 use Rattle.record.specs.declared.types.Ranges.{Ranges}
+use Rattle.record.specs.declared.types.Four.{Four}
 use Rattle.record.specs.declared.types.Body.{Body}
 use Rattle.record.specs.declared.types.Body.the-variants.{Free, CalGray, CalRgb, Lab, Indexed, Separation, Palette}
 use Rattle.record.specs.declared.types.Record.{Record}
+
+-- whether a number is 0
+abbrev pub isZero : ℤ → Bool
+isZero z = leZ (pos 0) z && leZ z (pos 0)
 
 -- 1, in millionths
 abbrev pub unit : ℕ
@@ -51,7 +57,7 @@ used (CalRgb g) = 0
 used (Lab g) = 0
 used (Indexed base hival) = 0
 used (Separation p) = 128
-used Palette = 504
+used Palette = room
 
 unfoldable pub named : Body → List ℕ → Bool
 named Free s = true
@@ -64,7 +70,7 @@ named Palette s = true
 
 -- an own number that a page can have, a name that fits, and zeros where the room is not used
 unfoldable pub shaped : Record → Bool
-shaped r = ltb (r .own) blocks && (named (r .body) (r .bytes) && zeroBetween (r .bytes) (used (r .body)) 504)
+shaped r = ltb (r .own) blocks && (named (r .body) (r .bytes) && zeroBetween (r .bytes) (used (r .body)) room)
 
 -- ---- 4: a number breaks a clause rule
 
@@ -112,6 +118,26 @@ refers (Lab g) = true
 refers (Indexed base hival) = device base || ltb base blocks
 refers (Separation p) = device (p .alternate) || ltb (p .alternate) blocks
 refers Palette = true
+
+-- ---- 7, of single blocks: spare bytes of a palette, and spare entries of C0 and C1
+
+-- a palette block
+abbrev pub isPalette : Body → Bool
+isPalette Free = false
+isPalette (CalGray g) = false
+isPalette (CalRgb g) = false
+isPalette (Lab g) = false
+isPalette (Indexed base hival) = false
+isPalette (Separation p) = false
+isPalette Palette = true
+
+-- the bytes of a palette end after `size` of its part in this block: those past them are zero
+unfoldable pub paletteEnds : List ℕ → ℕ → Bool
+paletteEnds b size = zeroBetween b (4 + size) 508
+
+-- the entries of C0 or C1 end after m: those past them are zero
+unfoldable pub entriesEnd : Four → ℕ → Bool
+entriesEnd q m = allBetween (λ k. isZero (value (entriesOf q) k)) m 4
 
 -- ---- the first of 3, 4, 5, 6 that a record meets, or 0
 

@@ -2,12 +2,15 @@
 ghost use mathlib.Core.Path.{_≡_};
 ghost use Prim.Native.Nat.{_<_, _≤_};
 ghost use Rattle.fixed.specs.Bytes.{blockAt, twoAt};
-ghost use Rattle.record.specs.Reading.{tripleAt, rangesAt, fourAt, grayAt, rgbAt, labAt, separationAt, ownAt, bodyAt, runAt, bytesBy, recordAt};
+ghost use Rattle.record.specs.Reading.{kindAt, tripleAt, rangesAt, fourAt, grayAt, rgbAt, labAt, separationAt, ownAt, bodyAt, runAt, bytesBy, paletteAt, recordAt};
+ghost use Rattle.record.specs.Layout.{room, entriesOf};
+ghost use Rattle.record.specs.Rules.{isPalette};
 use crate::types::Body;
 use crate::types::CalGray;
 use crate::types::CalRgb;
 use crate::types::Four;
 use crate::types::Lab;
+use crate::types::ROOM;
 use crate::types::Ranges;
 use crate::types::Record;
 use crate::types::Separation;
@@ -121,6 +124,36 @@ fn separation_at(page: &[u8], n: u32) -> Separation
     }
 }
 
+// The entries of C0 or C1, in their order.
+pub fn entries_of(q: Four) -> [i32; 4]
+    ensures { λ r. ⌜ r ≡ entriesOf q ⌝ }
+{
+    [q.a, q.b, q.c, q.d]
+}
+
+// The kind of block n.
+pub fn kind_at(page: &[u8], n: u32) -> u32
+    ensures { λ r. ⌜ r ≡ kindAt (blockAt (now (page .entry)) n) ⌝ }
+{
+    byte(page, n, 0)
+}
+
+// Whether block n is a palette block.
+pub fn is_palette(page: &[u8], n: u32) -> bool
+    ensures { λ r. ⌜ r ≡ isPalette (bodyAt (blockAt (now (page .entry)) n)) ⌝ }
+{
+    byte(page, n, 0) == 6
+}
+
+// Byte k of the part of a palette in block n.
+pub fn palette_at(page: &[u8], n: u32, k: u32) -> u32
+    requires { ⌜ k < room ⌝ }
+    ensures is { λ r. ⌜ r ≡ paletteAt (blockAt (now (page .entry)) n) k ⌝ }
+    ensures small { λ r. ⌜ r ≤ 255 ⌝ }
+{
+    byte(page, n, 4 + k)
+}
+
 // The number that block n gives itself.
 pub fn own_at(page: &[u8], n: u32) -> u16
     ensures { λ r. ⌜ r ≡ ownAt (blockAt (now (page .entry)) n) ⌝ }
@@ -145,7 +178,7 @@ pub fn body_at(page: &[u8], n: u32) -> Body
 }
 
 fn run_at(page: &[u8], n: u32, at: u32, count: u32) -> [u8; 504]
-    requires { ⌜ (count ≤ 504) × (at ≤ 512) ⌝ }
+    requires { ⌜ (count ≤ room) × (at ≤ 512) ⌝ }
     ensures { λ r. ⌜ r ≡ runAt (blockAt (now (page .entry)) n) at count ⌝ }
 {
     let mut bytes = [0u8; 504];
@@ -164,7 +197,7 @@ fn bytes_at(page: &[u8], n: u32, kind: u32) -> [u8; 504]
         return run_at(page, n, 8, 128);
     }
     if kind == 6 {
-        return run_at(page, n, 4, 504);
+        return run_at(page, n, 4, ROOM);
     }
     [0u8; 504]
 }

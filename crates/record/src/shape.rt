@@ -10,6 +10,7 @@ ghost use Rattle.record.specs.Reading.{bodyBy};
 ghost use Rattle.record.specs.Rules.{noneZero, nameFits, known, nameShown, formed, used, named, shaped};
 use crate::types::Body;
 use crate::types::NUMBERS;
+use crate::types::ROOM;
 use crate::types::Record;
 use fixed::byte;
 
@@ -128,7 +129,7 @@ fn used_of(y: Body) -> u32
         Body::Lab(_) => 0,
         Body::Indexed { base: _, hival: _ } => 0,
         Body::Separation(_) => 128,
-        Body::Palette => 504,
+        Body::Palette => ROOM,
     }
 }
 
@@ -153,5 +154,5 @@ pub fn is_shaped(r: Record) -> bool
     let y = r.body;
     let s = r.bytes;
     let from = used_of(y);
-    (r.own < NUMBERS) & (is_named(y, &s) & zero_between(&s, 0, from, 504))
+    (r.own < NUMBERS) & (is_named(y, &s) & zero_between(&s, 0, from, ROOM))
 }

@@ -3,6 +3,9 @@
 // How many blocks a page has at most: the numbers of blocks are below this.
 pub const NUMBERS: u16 = fixed::BLOCKS as u16;
 
+// How many bytes the room of a record has, and a block's part of a palette.
+pub const ROOM: u32 = 504;
+
 // Three numbers: a point of XYZ, or one for each of three components.
 pub struct Triple {
     pub x: i32,

@@ -11,7 +11,7 @@ use lib.ListN.{length, drop, length-append, List·getD-append}
 use lib.Seq.{drop-append-seam}
 use borrow.Author.Tests.{lt-ltb, le-ltb, le-leb, eq-eqb}
 use Rattle.fixed.specs.Numbers.{exponentSupported, gammaSupported, tintValue}
-use Rattle.fixed.specs.Values.{value, places, longest, given, limitStep, indexOf, rowStep, tintOf, tintStep}
+use Rattle.fixed.specs.Values.{value, places, given, limitStep, indexOf, rowStep, tintOf, tintStep}
 use Rattle.fixed.proofs.Decide.{both}
 use Rattle.fixed.proofs.Listed.{filled-same, index-within, row-room}
 use Rattle.cie.specs.Answers.{refusal}
@@ -22,7 +22,7 @@ use Rattle.cie.specs.declared.LabClosing.{LabClosing}
 use Rattle.cie.specs.declared.Closing.{Closing}
 use Rattle.cie.specs.declared.Closing.the-variants.{Gray, Rgb, Cmyk, CalGray, CalRgb, Lab}
 use Rattle.runner.specs.Steps.{limitRead, rowRead, tintRead, closeRead, grayRead, rgbRead, stepBy, stepOf}
-use Rattle.runner.specs.Runs.{ended, runs, ran}
+use Rattle.runner.specs.Runs.{longest, ended, runs, ran}
 use Rattle.runner.specs.declared.Step.the-variants.{Limit, Row, Tint, Close}
 use Rattle.runner.specs.declared.Read.the-variants.{At}
 use Rattle.runner.proofs.Stepped.{begun}
@@ -39,7 +39,7 @@ count-run m l cs low high short = simp (le-ltb longest (suc (length l)) short, o
 
 -- ---- a limit
 
-pub limit-read : (k : ℕ) (lo hi : ℤ) (l : List ℤ) → k < places → ltZ hi lo ≡ false → stepOf (pos 1 ∷ pos k ∷ lo ∷ hi ∷ l) ≡ At (Limit k) 4
+pub limit-read : (k : ℕ) (lo hi : ℤ) (l : List ℤ) → k < places → ltZ hi lo ≡ false → stepOf (pos 1 ∷ pos k ∷ lo ∷ hi ∷ l) ≡ At (Limit k lo hi) 4
 unfolding stepBy limitRead
 limit-read k lo hi l h o =
     let e : 4 ≤ suc (suc (suc (suc (length l)))) = omega arith in

@@ -52,7 +52,7 @@ limit-sound l =
     cond-ind (Fine l) (ltb (length l) 4) (λ _. nothing l) (λ e.
     cond-ind (Fine l) (ltb (smallOf (value l 1)) places) (λ k.
     cond-ind (Fine l) (ltZ (value l 3) (value l 2)) (λ _. nothing l) (λ _.
-    at l (Limit (smallOf (value l 1))) 4 (omega arith) (ltb-false _ _ e) (ltb-true _ _ k))) (λ _. nothing l))
+    at l (Limit (smallOf (value l 1)) (value l 2) (value l 3)) 4 (omega arith) (ltb-false _ _ e) (ltb-true _ _ k))) (λ _. nothing l))
 
 row-sound : (l : List ℤ) → Fine l (rowRead l)
 unfolding rowRead
@@ -144,7 +144,7 @@ begun n c l v e = runs-step n c l v ∙ ap (begins n c l v) e
 -- a step that does not close leaves the values `stepped`
 open-step : (n c : ℕ) (l v : List ℤ) (size : ℕ) (s : Step) → ((k : Closing) → s ≡ Close k → ⊥)
     → after n c l size (acted l n c v size s) ≡ runs n c (drop size l) (stepped l v s)
-open-step n c l v size (Limit k) isnt = refl
+open-step n c l v size (Limit k lo hi) isnt = refl
 open-step n c l v size (Row m h) isnt = refl
 open-step n c l v size (Tint e m) isnt = refl
 open-step n c l v size (Close k) isnt = absurd (isnt k refl)

@@ -5,7 +5,7 @@ use mathlib.Core.List.{List, [], _∷_}
 use lib.IntN.{ℤ}
 use lib.Dec.{ltb, eqb}
 use lib.ListN.{length, drop}
-use Rattle.fixed.specs.Values.{value, smallOf, places, longest, given, limitStep, rowStep, tintStep}
+use Rattle.fixed.specs.Values.{value, smallOf, places, given, limitStep, rowStep, tintStep}
 use Rattle.cie.specs.Answers.{Reply, refusal}
 use Rattle.cie.specs.Closings.{closed}
 use Rattle.cie.specs.declared.Closing.{Closing}
@@ -13,6 +13,10 @@ use Rattle.runner.specs.Steps.{fills, stepOf}
 use Rattle.runner.specs.declared.Step.{Step}
 use Rattle.runner.specs.declared.Step.the-variants.{Limit, Row, Tint, Close}
 use Rattle.runner.specs.declared.Read.the-variants.{At, Nothing}
+
+-- the words of the longest recipe: an Indexed of hival 255 over DeviceCMYK
+abbrev pub longest : ℕ
+longest = 1045
 
 -- what one step comes to: the reply, or the values after it
 pub data Turn : Type 0 where
@@ -25,14 +29,14 @@ ended l n c k size v = cond (eqb size (length l)) (cond (eqb c n) (closed k v) (
 
 -- the values after a step that does not close, whose words stand at the front of l
 abbrev pub stepped : List ℤ → List ℤ → Step → List ℤ
-stepped l v (Limit k) = limitStep k (value l 2) (value l 3) v
+stepped l v (Limit k lo hi) = limitStep k lo hi v
 stepped l v (Row m h) = rowStep m h (drop 3 l) v
 stepped l v (Tint e m) = tintStep e m (drop 3 l) (drop (3 + m) l) v
 stepped l v (Close k) = v
 
 -- one step, whose words stand at the front of l
 abbrev pub acted : List ℤ → ℕ → ℕ → List ℤ → ℕ → Step → Turn
-acted l n c v size (Limit k) = more (stepped l v (Limit k))
+acted l n c v size (Limit k lo hi) = more (stepped l v (Limit k lo hi))
 acted l n c v size (Row m h) = more (stepped l v (Row m h))
 acted l n c v size (Tint e m) = more (stepped l v (Tint e m))
 acted l n c v size (Close k) = done (ended l n c k size v)

@@ -26,7 +26,7 @@ unfoldable pub limitRead : List ℤ → Read
 limitRead l =
     cond (ltb (length l) 4) Nothing
     (cond (ltb (smallOf (value l 1)) places)
-    (cond (ltZ (value l 3) (value l 2)) Nothing (At (Limit (smallOf (value l 1))) 4))
+    (cond (ltZ (value l 3) (value l 2)) Nothing (At (Limit (smallOf (value l 1)) (value l 2) (value l 3)) 4))
     Nothing)
 
 -- 2 m h and m (h + 1) entries; m 1..4, h 0..255

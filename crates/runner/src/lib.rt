@@ -8,10 +8,10 @@ mod words;
 use cie::Closing;
 pub use running::run;
 
-// A step of a recipe, with its small numbers; its other numbers are read off its words.
+// A step of a recipe, with its numbers; entries, C0s and C1s are read off its words.
 pub enum Step {
-    // Limit value k.
-    Limit(u32),
+    // Limit value k to lo..hi.
+    Limit(u32, i32, i32),
     // Pick a row of m entries, of rows 0..h.
     Row(u32, u32),
     // The tint to the exponent e, and m components of the alternate space.

@@ -1,17 +1,20 @@
 -- How many components a space has, how many entries its lists, and how many words its recipe.
-use mathlib.Core.Path.{_≡_, refl, ap, _∙_, sym}
+use mathlib.Core.Path.{_≡_, sym, ap, _∙_}
 use mathlib.Core.List.{List}
 use Prim.Native.Nat.{ℕ, _+_, _*_, _≤_}
 use native.Mathlib.Nat.{mul-le-mul}
 use native.Mathlib.Omega.{arith}
 use lib.ListN.{length}
+use lib.Seq.{length-take-le}
 use Rattle.fixed.specs.Values.{places}
 use Rattle.fixed.proofs.Listed.{listed-length}
-use Rattle.space.specs.Numbers.{kindAt, rankAt, innerAt, hivalAt}
+use Rattle.record.specs.Layout.{entriesOf}
+use Rattle.record.specs.declared.types.Separation.{Separation as Ink}
 use Rattle.space.specs.Spaces.{Space, none, gray, rgb, cmyk, calGray, calRgb, lab, separation, indexed, countOf, wordsOf}
-use Rattle.space.specs.Pages.{spaceAt, entries, tableOf, c0Of, c1Of}
-use Rattle.space.proofs.Ranks.{falls-indexed, falls-separation}
-use Rattle.space.proofs.Levels.{at-indexed, at-separation}
+use Rattle.space.specs.Pages.{entries, tableOf, c0Of, c1Of, plainAt, tintedAt}
+use Rattle.space.specs.Levels.{spaceIn}
+use Rattle.space.specs.declared.nesting.Level.{Level}
+use Rattle.space.specs.declared.nesting.Level.the-variants.{Separation, Indexed}
 
 pub count-high : (s : Space) → countOf s ≤ places
 count-high none = omega arith
@@ -24,17 +27,15 @@ count-high (lab k al ah bl bh) = omega arith
 count-high (separation e c0 c1 s) = omega arith
 count-high (indexed h t s) = omega arith
 
-pub table-length : (page : List ℕ) (n : ℕ) (s : Space) → length (tableOf page n s) ≡ countOf s * (hivalAt page n + 1)
+pub table-length : (page : List ℕ) (n hival : ℕ) (s : Space) → length (tableOf page n hival s) ≡ countOf s * (hival + 1)
 unfolding tableOf
-table-length page n s = listed-length _ (countOf s * (hivalAt page n + 1))
+table-length page n hival s = listed-length _ (countOf s * (hival + 1))
 
-pub c0-length : (page : List ℕ) (n : ℕ) (s : Space) → length (c0Of page n s) ≡ countOf s
-unfolding c0Of
-c0-length page n s = listed-length _ (countOf s)
+pub c0-length : (p : Ink) (s : Space) → length (c0Of p s) ≡ countOf s
+c0-length p s = length-take-le (countOf s) (entriesOf (p .c0)) (count-high s)
 
-pub c1-length : (page : List ℕ) (n : ℕ) (s : Space) → length (c1Of page n s) ≡ countOf s
-unfolding c1Of
-c1-length page n s = listed-length _ (countOf s)
+pub c1-length : (p : Ink) (s : Space) → length (c1Of p s) ≡ countOf s
+c1-length p s = length-take-le (countOf s) (entriesOf (p .c1)) (count-high s)
 
 -- no table has more entries
 pub few-entries : (m h : ℕ) → m ≤ places → h ≤ 65535 → m * (h + 1) ≤ entries
@@ -42,21 +43,12 @@ few-entries m h lm lh =
     let k : h + 1 ≤ 65536 = omega arith in
     mul-le-mul lm k
 
--- the words of a recipe in the code's own terms: b the inner number, m its components, h hival, and r the words of the space within
-module _ (page : List ℕ) (n b m r : ℕ) (eb : b ≡ innerAt page n) (em : m ≡ countOf (spaceAt page b)) (lm : m ≤ places) (er : r ≡ wordsOf (spaceAt page b))
-    (lr : r ≤ (entries + 26) * (rankAt page b + 1)) where
-  pub words-indexed : (h : ℕ) → kindAt page n ≡ 4 → h ≡ hivalAt page n → h ≤ 65535
-      → (3 + m * (h + 1) + r ≡ wordsOf (spaceAt page n)) × (3 + m * (h + 1) + r ≤ (entries + 26) * (rankAt page n + 1))
-  words-indexed h k eh lh =
-      let f = falls-indexed page n b (rankAt page n) k eb refl in
-      let q = few-entries m h lm lh in (
-        sym (ap wordsOf (at-indexed page n k) ∙ rw (← eb, ← em, ← er, ← eh)),
-        omega arith,
-      )
+-- the words of a recipe in the code's own terms: l a level, s the space within, of m components and r words
+module _ (page : List ℕ) {l : Level} {s : Space} {m r : ℕ} (em : m ≡ countOf s) (er : r ≡ wordsOf s) where
+  pub words-separation : (p : Ink) → l ≡ Separation p → s ≡ plainAt page (p .alternate) → 3 + 2 * m + r ≡ wordsOf (spaceIn page l)
+  unfolding spaceIn
+  words-separation p el es = (λ i. 3 + 2 * (em ∙ ap countOf es) i + (er ∙ ap wordsOf es) i) ∙ sym (ap (λ (k : Level). wordsOf (spaceIn page k)) el)
 
-  pub words-separation : kindAt page n ≡ 5 → (3 + 2 * m + r ≡ wordsOf (spaceAt page n)) × (3 + 2 * m + r ≤ (entries + 26) * (rankAt page n + 1))
-  words-separation k =
-      let f = falls-separation page n b (rankAt page n) k eb refl in (
-        sym (ap wordsOf (at-separation page n k) ∙ rw (← eb, ← em, ← er)),
-        omega arith,
-      )
+  pub words-indexed : (n base hival : ℕ) → l ≡ Indexed n base hival → s ≡ tintedAt page base → 3 + m * (hival + 1) + r ≡ wordsOf (spaceIn page l)
+  unfolding spaceIn
+  words-indexed n base hival el es = (λ i. 3 + (em ∙ ap countOf es) i * (hival + 1) + (er ∙ ap wordsOf es) i) ∙ sym (ap (λ (k : Level). wordsOf (spaceIn page k)) el)

@@ -1,86 +1,191 @@
--- The space at a number, one equation for each level, with the space at the inner number for the one within.
-use mathlib.Core.Path.{_≡_, ap, _∙_, sym, subst}
+-- The level that the code reads is the space at that number, and so is what it takes for the space within. What each level hands on holds of every space on a page.
+use mathlib.Core.Path.{_≡_, refl, ap, _∙_}
+use mathlib.Core.Bool.{Bool, true, false, cond}
 use mathlib.Core.List.{List}
-use Prim.Native.Nat.{ℕ, _<_}
+use Prim.Native.Nat.{ℕ, _≤_, _<_}
 use native.Mathlib.Omega.{arith}
-use borrow.Author.Tests.{ne-eqb}
-use lib.Dec.{eqb}
-use Rattle.fixed.proofs.Decide.{cond-ind}
-use Rattle.cie.specs.declared.GrayClosing.{GrayClosing}
-use Rattle.cie.specs.declared.RgbClosing.{RgbClosing}
-use Rattle.cie.specs.declared.LabClosing.{LabClosing}
 use lib.IntN.{ℤ}
-use Rattle.fixed.specs.Bytes.{grayCode, rgbCode, cmykCode}
-use Rattle.space.specs.Numbers.{kindAt, rankAt, innerAt}
+use lib.Dec.{eqb, ltb}
+use Rattle.fixed.specs.Bytes.{blocks, grayCode, rgbCode, cmykCode, blockAt}
+use Rattle.fixed.proofs.Decide.{cond-ind}
+use Rattle.cie.specs.declared.Closing.{Closing}
+use Rattle.cie.specs.declared.Closing.the-variants.{Nothing, Gray, Rgb, Cmyk}
+use Rattle.record.specs.Reading.{bodyAt}
+use Rattle.record.specs.declared.types.Ranges.{Ranges}
+use Rattle.record.specs.declared.types.Separation.{Separation as Ink}
+use Rattle.record.specs.declared.types.Body.{Body}
+use Rattle.record.specs.declared.types.Body.the-variants.{Free, CalGray, CalRgb, Lab, Indexed as IndexedBody, Separation as SeparationBody, Palette}
 use Rattle.space.specs.Spaces.{Space, none, gray, rgb, cmyk, calGray, calRgb, lab, separation, indexed}
-use Rattle.space.specs.Pages.{plainBy, plainAt, tintedBy, tintedAt, spaceBy, spaceAt, indexedOver, separationOver}
+use Rattle.space.specs.Pages.{deviceOf, numbered, plainOf, plainAt, separationOver, tintedOf, tintedAt, indexedOver, spaceOf, spaceAt}
 use Rattle.space.specs.Wholes.{rankOf}
-use Rattle.space.proofs.Ranks.{rank-indexed, rank-separation, no-indexed, no-separation, inner-falls}
+use Rattle.space.specs.Levels.{plainIn, spaceIn, rankIn, noRanges, nothing, levelOf, deviceClosing, levelAt}
+use Rattle.space.specs.declared.nesting.Level.{Level}
+use Rattle.space.specs.declared.nesting.Level.the-variants.{Plain, Separation, Indexed}
+
+-- ---- What is read
+
+-- what is left of a level that an Indexed refers to, and a Separation
+abbrev pub tinted : Level → Level
+tinted (Plain c q) = Plain c q
+tinted (Separation p) = Separation p
+tinted (Indexed n base hival) = nothing
+
+abbrev pub plain : Level → Level
+plain (Plain c q) = Plain c q
+plain (Separation p) = nothing
+plain (Indexed n base hival) = nothing
+
+pub rank-most : (l : Level) → rankIn l ≤ 2
+rank-most (Plain c q) = omega arith
+rank-most (Separation p) = omega arith
+rank-most (Indexed n base hival) = omega arith
+
+tinted-rank : (l : Level) → rankIn (tinted l) < 2
+tinted-rank (Plain c q) = omega arith
+tinted-rank (Separation p) = omega arith
+tinted-rank (Indexed n base hival) = omega arith
+
+plain-falls : (l : Level) → rankIn (plain l) < 1
+plain-falls (Plain c q) = omega arith
+plain-falls (Separation p) = omega arith
+plain-falls (Indexed n base hival) = omega arith
+
+-- a device space
+by-code : (a b c : Bool) (q : Ranges) → plainIn (cond a Gray (cond b Rgb (cond c Cmyk Nothing))) q ≡ cond a gray (cond b rgb (cond c cmyk none))
+by-code true b c q = refl
+by-code false true c q = refl
+by-code false false true q = refl
+by-code false false false q = refl
+
+device-is : (n : ℕ) (q : Ranges) → plainIn (deviceClosing n) q ≡ deviceOf n
+unfolding deviceClosing deviceOf
+device-is n q = by-code (eqb n grayCode) (eqb n rgbCode) (eqb n cmykCode) q
 
 module _ (page : List ℕ) (n : ℕ) where
-  pub not-indexed : (kindAt page n ≡ 4 → ⊥) → spaceAt page n ≡ tintedAt page n
-  unfolding spaceBy
-  not-indexed h = simp (ne-eqb _ _ h)
+  -- g is what is taken of a level, and f of a body
+  module _ (g : Level → Level) (keeps : (c : Closing) → g (Plain c noRanges) ≡ Plain c noRanges) (f : Body → Space) (same : (y : Body) → spaceIn page (g (levelOf n y)) ≡ f y) where
+    by-size : (t : Bool) → spaceIn page (g (cond t (levelOf n (bodyAt (blockAt page n))) (Plain (deviceClosing n) noRanges))) ≡ cond t (f (bodyAt (blockAt page n))) (deviceOf n)
+    unfolding spaceIn
+    by-size true = same _
+    by-size false = rw (keeps (deviceClosing n)) (device-is n noRanges)
 
-  pub not-separation : (kindAt page n ≡ 5 → ⊥) → tintedAt page n ≡ plainAt page n
-  unfolding tintedBy
-  not-separation h = simp (ne-eqb _ _ h)
+    level-is : spaceIn page (g (levelAt page n)) ≡ numbered page f n
+    unfolding levelAt
+    level-is = by-size (ltb n blocks)
 
-  pub at-plain : (kindAt page n ≡ 4 → ⊥) → (kindAt page n ≡ 5 → ⊥) → spaceAt page n ≡ plainAt page n
-  at-plain h g = not-indexed h ∙ not-separation g
+  same-space : (y : Body) → spaceIn page (levelOf n y) ≡ spaceOf page n y
+  unfolding spaceIn levelOf spaceOf tintedOf plainOf
+  same-space Free = refl
+  same-space (CalGray g) = refl
+  same-space (CalRgb g) = refl
+  same-space (Lab g) = refl
+  same-space (IndexedBody base hival) = refl
+  same-space (SeparationBody p) = refl
+  same-space Palette = refl
 
-module _ (page : List ℕ) (n : ℕ) where
-  abbrev b : ℕ
-  b = innerAt page n
+  same-tinted : (y : Body) → spaceIn page (tinted (levelOf n y)) ≡ tintedOf page y
+  unfolding spaceIn levelOf tintedOf plainOf
+  same-tinted Free = refl
+  same-tinted (CalGray g) = refl
+  same-tinted (CalRgb g) = refl
+  same-tinted (Lab g) = refl
+  same-tinted (IndexedBody base hival) = refl
+  same-tinted (SeparationBody p) = refl
+  same-tinted Palette = refl
 
-  pub at-indexed : kindAt page n ≡ 4 → spaceAt page n ≡ indexedOver page n (spaceAt page b)
-  unfolding spaceBy
-  at-indexed e =
-      let r : rankAt page n ≡ 2 = rank-indexed page n e in
-      let f : rankAt page b < 2 = omega (arith, inner-falls page n (omega arith)) in
-      ap (λ (k : ℕ). spaceBy k page n) e ∙ ap (indexedOver page n) (sym (not-indexed page b (no-indexed page b f)))
+  same-plain : (y : Body) → spaceIn page (plain (levelOf n y)) ≡ plainOf y
+  unfolding spaceIn levelOf plainOf
+  same-plain Free = refl
+  same-plain (CalGray g) = refl
+  same-plain (CalRgb g) = refl
+  same-plain (Lab g) = refl
+  same-plain (IndexedBody base hival) = refl
+  same-plain (SeparationBody p) = refl
+  same-plain Palette = refl
 
-  pub at-separation : kindAt page n ≡ 5 → spaceAt page n ≡ separationOver page n (spaceAt page b)
-  unfolding spaceBy tintedBy
-  at-separation e =
-      let r : rankAt page n ≡ 1 = rank-separation page n e in
-      let f : rankAt page b < 1 = omega (arith, inner-falls page n (omega arith)) in
-      let g : rankAt page b < 2 = omega arith in
-      ap (λ (k : ℕ). spaceBy k page n) e ∙
-      ap (separationOver page n) (sym (at-plain page b (no-indexed page b g) (no-separation page b f)))
+  space-is : spaceIn page (levelAt page n) ≡ spaceAt page n
+  space-is = level-is (λ l. l) (λ _. refl) (spaceOf page n) same-space
 
--- what holds of each space that is neither Indexed nor Separation holds of the plain space at a number
-module _ (page : List ℕ) (n : ℕ) (P : Space → Type 0) (a : P none) (b : P gray) (c : P rgb) (d : P cmyk)
-    (e : (k : GrayClosing) → P (calGray k)) (f : (k : RgbClosing) → P (calRgb k)) (g : (k : LabClosing) (al ah bl bh : ℤ) → P (lab k al ah bl bh)) where
-  pub plain-ind : (k : ℕ) → P (plainBy k page n)
-  unfolding plainBy
-  plain-ind k =
-      cond-ind P (eqb k grayCode) (λ _. b) (λ _.
-      cond-ind P (eqb k rgbCode) (λ _. c) (λ _.
-      cond-ind P (eqb k cmykCode) (λ _. d) (λ _.
-      cond-ind P (eqb k 1) (λ _. e _) (λ _.
-      cond-ind P (eqb k 2) (λ _. f _) (λ _.
-      cond-ind P (eqb k 3) (λ _. g _ _ _ _ _) (λ _. a))))))
+  tinted-is : spaceIn page (tinted (levelAt page n)) ≡ tintedAt page n
+  tinted-is = level-is tinted (λ _. refl) (tintedOf page) same-tinted
 
-  pub plain-at : (kindAt page n ≡ 4 → ⊥) → (kindAt page n ≡ 5 → ⊥) → P (spaceAt page n)
-  plain-at h i = subst P (sym (at-plain page n h i)) (plain-ind (kindAt page n))
+  plain-is : spaceIn page (plain (levelAt page n)) ≡ plainAt page n
+  plain-is = level-is plain (λ _. refl) plainOf same-plain
+
+-- the same in the code's own terms: l is what it read, and r what it took of that
+module _ (page : List ℕ) (n : ℕ) {l : Level} (e : l ≡ levelAt page n) where
+  pub level-space : spaceIn page l ≡ spaceAt page n
+  level-space = ap (spaceIn page) e ∙ space-is page n
+
+  -- what is said of its space is said of the space at the number
+  pub space-read : {A : Type 0} (f : Space → A) {x : A} → x ≡ f (spaceIn page l) → x ≡ f (spaceAt page n)
+  space-read f h = h ∙ ap f level-space
+
+  pub tinted-read : {r : Level} → r ≡ tinted l → (spaceIn page r ≡ tintedAt page n) × (rankIn r < 2)
+  tinted-read h = (rw (h, e) (tinted-is page n), rw h (tinted-rank l))
+
+  pub plain-read : {r : Level} → r ≡ plain l → (spaceIn page r ≡ plainAt page n) × (rankIn r < 1)
+  plain-read h = (rw (h, e) (plain-is page n), rw h (plain-falls l))
+
+-- ---- What holds of every space
+
+-- a number's space is its block's, or a device space, or none
+pub numbered-ind : (P : Space → Type 0) → P none → P gray → P rgb → P cmyk → (page : List ℕ) (f : Body → Space) (n : ℕ) → P (f (bodyAt (blockAt page n))) → P (numbered page f n)
+unfolding deviceOf
+numbered-ind P a b c d page f n h =
+    cond-ind P (ltb n blocks) (λ _. h) (λ _.
+    cond-ind P (eqb n grayCode) (λ _. b) (λ _.
+    cond-ind P (eqb n rgbCode) (λ _. c) (λ _.
+    cond-ind P (eqb n cmykCode) (λ _. d) (λ _. a))))
 
 -- nothing is within a plain space
-pub plain-rank : (page : List ℕ) (n k : ℕ) → rankOf (plainBy k page n) < 1
-plain-rank page n =
-    plain-ind page n (λ (s : Space). rankOf s < 1) (omega arith) (omega arith) (omega arith) (omega arith)
-    (λ _. omega arith) (λ _. omega arith) (λ _ _ _ _ _. omega arith)
+pub body-rank : (y : Body) → rankOf (plainOf y) < 1
+unfolding plainOf
+body-rank Free = omega arith
+body-rank (CalGray g) = omega arith
+body-rank (CalRgb g) = omega arith
+body-rank (Lab g) = omega arith
+body-rank (IndexedBody base hival) = omega arith
+body-rank (SeparationBody p) = omega arith
+body-rank Palette = omega arith
 
--- what a plain space hands on to a Separation, and either to an Indexed, holds of the space at every number
-module _ (page : List ℕ) (P : Space → Type 0) (plain : (n k : ℕ) → P (plainBy k page n))
-    (separated : (n : ℕ) (s : Space) → rankOf s < 1 → P s → P (separationOver page n s)) where
-  pub tinted-ind : (n k : ℕ) → P (tintedBy k page n)
-  unfolding tintedBy
-  tinted-ind n k = cond-ind P (eqb k 5) (λ _. separated n _ (plain-rank page _ _) (plain _ _)) (λ _. plain n k)
+pub plain-rank : (page : List ℕ) (n : ℕ) → rankOf (plainAt page n) < 1
+plain-rank page n = numbered-ind (λ (s : Space). rankOf s < 1) (omega arith) (omega arith) (omega arith) (omega arith) page plainOf n (body-rank _)
 
-  pub space-ind : ((n : ℕ) (s : Space) → P s → P (indexedOver page n s)) → (n : ℕ) → P (spaceAt page n)
-  unfolding spaceBy
-  space-ind indexes n = cond-ind P (eqb (kindAt page n) 4) (λ _. indexes n _ (tinted-ind _ _)) (λ _. tinted-ind n (kindAt page n))
+-- what holds of plain spaces, and is handed on to a Separation over one, and to an Indexed over either
+module _ (page : List ℕ) (P : Space → Type 0) (plains : (s : Space) → rankOf s < 1 → P s) (separated : (p : Ink) (s : Space) → rankOf s < 1 → P s → P (separationOver p s)) where
+  over-plain : (y : Body) → P (plainOf y)
+  over-plain y = plains _ (body-rank y)
+
+  over-tinted : (y : Body) → P (tintedOf page y)
+  unfolding tintedOf
+  over-tinted Free = over-plain Free
+  over-tinted (CalGray g) = over-plain (CalGray g)
+  over-tinted (CalRgb g) = over-plain (CalRgb g)
+  over-tinted (Lab g) = over-plain (Lab g)
+  over-tinted (IndexedBody base hival) = over-plain (IndexedBody base hival)
+  over-tinted (SeparationBody p) = separated p (plainAt page (p .alternate)) (plain-rank page (p .alternate)) (plains _ (plain-rank page (p .alternate)))
+  over-tinted Palette = over-plain Palette
+
+  among : (f : Body → Space) (n : ℕ) → P (f (bodyAt (blockAt page n))) → P (numbered page f n)
+  among = numbered-ind P (plains none (omega arith)) (plains gray (omega arith)) (plains rgb (omega arith)) (plains cmyk (omega arith)) page
+
+  pub tinted-ind : (n : ℕ) → P (tintedAt page n)
+  tinted-ind n = among (tintedOf page) n (over-tinted _)
+
+  module _ (indexes : (n hival : ℕ) (s : Space) → P s → P (indexedOver page n hival s)) where
+    over-space : (n : ℕ) (y : Body) → P (spaceOf page n y)
+    unfolding spaceOf
+    over-space n Free = over-tinted Free
+    over-space n (CalGray g) = over-tinted (CalGray g)
+    over-space n (CalRgb g) = over-tinted (CalRgb g)
+    over-space n (Lab g) = over-tinted (Lab g)
+    over-space n (IndexedBody base hival) = indexes n hival (tintedAt page base) (tinted-ind base)
+    over-space n (SeparationBody p) = over-tinted (SeparationBody p)
+    over-space n Palette = over-tinted Palette
+
+    pub space-ind : (n : ℕ) → P (spaceAt page n)
+    space-ind n = among (spaceOf page n) n (over-space n _)
 
 -- a space is plain, a Separation or an Indexed
 pub by-rank : (P : Space → Type 0) → ((s : Space) → rankOf s < 1 → P s) → ((e : ℕ) (c0 c1 : List ℤ) (s : Space) → P (separation e c0 c1 s))

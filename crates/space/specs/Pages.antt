@@ -1,53 +1,95 @@
--- The space at a number of a page, read off the bytes (FORMAT.md, Kinds and Palettes): three levels, so nesting falls at each step.
+-- The space at a number of a page (FORMAT.md, Kinds and Palettes): a plain one, a Separation over a plain one, or an Indexed over one of those, so nesting falls
+-- at each step.
 use Prim.Native.Nat.{ℕ, _+_, _*_, _%_}
 use mathlib.Core.Bool.{cond}
 use mathlib.Core.List.{List}
 use lib.IntN.{ℤ}
-use lib.Dec.{eqb}
+use lib.Dec.{ltb, eqb}
+use lib.ListN.{take}
 use Rattle.fixed.specs.Numbers.{paletteValue}
-use Rattle.fixed.specs.Bytes.{grayCode, rgbCode, cmykCode, blockAt, numberAt}
-use Rattle.fixed.specs.Values.{places, listed, rowStep, tintStep}
+use Rattle.fixed.specs.Bytes.{blocks, grayCode, rgbCode, cmykCode, blockAt}
+use Rattle.fixed.specs.Values.{places, listed, rowStep}
 use Rattle.cie.specs.declared.GrayClosing.{GrayClosing}
 use Rattle.cie.specs.declared.RgbClosing.{RgbClosing}
 use Rattle.cie.specs.declared.LabClosing.{LabClosing}
-use Rattle.space.specs.Numbers.{kindAt, innerAt, hivalAt, exponentAt, paletteByte}
+use Rattle.record.specs.Layout.{entriesOf}
+use Rattle.record.specs.Reading.{bodyAt}
+use Rattle.record.specs.declared.types.CalGray.{CalGray as GraySpace}
+use Rattle.record.specs.declared.types.CalRgb.{CalRgb as RgbSpace}
+use Rattle.record.specs.declared.types.Lab.{Lab as LabSpace}
+use Rattle.record.specs.declared.types.Separation.{Separation as Ink}
+use Rattle.record.specs.declared.types.Body.{Body}
+use Rattle.record.specs.declared.types.Body.the-variants.{Free, CalGray, CalRgb, Lab, Indexed, Separation, Palette}
+use Rattle.space.specs.Numbers.{paletteByte}
 use Rattle.space.specs.Spaces.{Space, none, gray, rgb, cmyk, calGray, calRgb, lab, separation, indexed, countOf, lowOf, highOf}
 
--- the numbers of a block b that its closing step has: X and Z of the white point at 4 and 12, gammas from 28, the matrix from 40
-abbrev pub grayNumbers : List ℕ → GrayClosing
-grayNumbers b = record { xw = numberAt b 4; zw = numberAt b 12; gamma = numberAt b 28 }
+-- the numbers of a record that its closing step has: X and Z of the white point, gammas, the matrix
+abbrev pub grayNumbers : GraySpace → GrayClosing
+grayNumbers g = record { xw = g .white .x; zw = g .white .z; gamma = g .gamma }
 
-abbrev pub rgbNumbers : List ℕ → RgbClosing
-rgbNumbers b =
+abbrev pub rgbNumbers : RgbSpace → RgbClosing
+rgbNumbers g =
     record {
-      ga = numberAt b 28;
-      gb = numberAt b 32;
-      gc = numberAt b 36;
-      xa = numberAt b 40;
-      ya = numberAt b 44;
-      za = numberAt b 48;
-      xb = numberAt b 52;
-      yb = numberAt b 56;
-      zb = numberAt b 60;
-      xc = numberAt b 64;
-      yc = numberAt b 68;
-      zc = numberAt b 72;
+      ga = g .gammas .x;
+      gb = g .gammas .y;
+      gc = g .gammas .z;
+      xa = g .a .x;
+      ya = g .a .y;
+      za = g .a .z;
+      xb = g .b .x;
+      yb = g .b .y;
+      zb = g .b .z;
+      xc = g .c .x;
+      yc = g .c .y;
+      zc = g .c .z;
     }
 
-abbrev pub labNumbers : List ℕ → LabClosing
-labNumbers b = record { xw = numberAt b 4; zw = numberAt b 12 }
+abbrev pub labNumbers : LabSpace → LabClosing
+labNumbers g = record { xw = g .white .x; zw = g .white .z }
 
--- a device space, CalGray, CalRGB or Lab, by its kind; a Lab's ranges from 28
-unfoldable pub plainBy : ℕ → List ℕ → ℕ → Space
-plainBy kind page n =
-    cond (eqb kind grayCode) gray
-    (cond (eqb kind rgbCode) rgb
-    (cond (eqb kind cmykCode) cmyk
-    (cond (eqb kind 1) (calGray (grayNumbers (blockAt page n)))
-    (cond (eqb kind 2) (calRgb (rgbNumbers (blockAt page n)))
-    (cond (eqb kind 3)
-    (lab (labNumbers (blockAt page n)) (numberAt (blockAt page n) 28) (numberAt (blockAt page n) 32) (numberAt (blockAt page n) 36) (numberAt (blockAt page n) 40))
-    none)))))
+-- a device space, by its code
+unfoldable pub deviceOf : ℕ → Space
+deviceOf n = cond (eqb n grayCode) gray (cond (eqb n rgbCode) rgb (cond (eqb n cmykCode) cmyk none))
+
+-- what a number of a page is: its block, as f takes it, or a device space
+abbrev pub numbered : List ℕ → (Body → Space) → ℕ → Space
+numbered page f n = cond (ltb n blocks) (f (bodyAt (blockAt page n))) (deviceOf n)
+
+-- CalGray, CalRGB or Lab; a plain space is one of these or a device space
+unfoldable pub plainOf : Body → Space
+plainOf Free = none
+plainOf (CalGray g) = calGray (grayNumbers g)
+plainOf (CalRgb g) = calRgb (rgbNumbers g)
+plainOf (Lab g) = lab (labNumbers g) (g .range .amin) (g .range .amax) (g .range .bmin) (g .range .bmax)
+plainOf (Indexed base hival) = none
+plainOf (Separation p) = none
+plainOf Palette = none
+
+abbrev pub plainAt : List ℕ → ℕ → Space
+plainAt page n = numbered page plainOf n
+
+-- C0 and C1 of a Separation p, as many entries as the alternate s has components
+abbrev pub c0Of : Ink → Space → List ℤ
+c0Of p s = take (countOf s) (entriesOf (p .c0))
+
+abbrev pub c1Of : Ink → Space → List ℤ
+c1Of p s = take (countOf s) (entriesOf (p .c1))
+
+abbrev pub separationOver : Ink → Space → Space
+separationOver p s = separation (p .exponent) (c0Of p s) (c1Of p s) s
+
+-- a Separation over a plain space, or a plain space
+unfoldable pub tintedOf : List ℕ → Body → Space
+tintedOf page Free = plainOf Free
+tintedOf page (CalGray g) = plainOf (CalGray g)
+tintedOf page (CalRgb g) = plainOf (CalRgb g)
+tintedOf page (Lab g) = plainOf (Lab g)
+tintedOf page (Indexed base hival) = plainOf (Indexed base hival)
+tintedOf page (Separation p) = separationOver p (plainAt page (p .alternate))
+tintedOf page Palette = plainOf Palette
+
+abbrev pub tintedAt : List ℕ → ℕ → Space
+tintedAt page n = numbered page (tintedOf page) n
 
 -- entry j of the table of the Indexed block n over the base s: a palette byte, over the range of its component
 unfoldable pub entryOf : List ℕ → ℕ → Space → ℕ → ℤ
@@ -58,48 +100,25 @@ abbrev pub entries : ℕ
 entries = places * 65536
 
 -- the table: m (hival + 1) entries
-unfoldable pub tableOf : List ℕ → ℕ → Space → List ℤ
-tableOf page n s = listed (entryOf page n s) (countOf s * (hivalAt page n + 1))
+unfoldable pub tableOf : List ℕ → ℕ → ℕ → Space → List ℤ
+tableOf page n hival s = listed (entryOf page n s) (countOf s * (hival + 1))
 
-abbrev pub indexedOver : List ℕ → ℕ → Space → Space
-indexedOver page n s = indexed (hivalAt page n) (tableOf page n s) s
+abbrev pub indexedOver : List ℕ → ℕ → ℕ → Space → Space
+indexedOver page n hival s = indexed hival (tableOf page n hival s) s
 
--- C0 at 136 and C1 at 152 of the Separation block n, as many as the alternate s has components
-abbrev pub c0At : List ℕ → ℕ → ℕ → ℤ
-c0At page n k = numberAt (blockAt page n) (136 + 4 * k)
-
-abbrev pub c1At : List ℕ → ℕ → ℕ → ℤ
-c1At page n k = numberAt (blockAt page n) (152 + 4 * k)
-
-unfoldable pub c0Of : List ℕ → ℕ → Space → List ℤ
-c0Of page n s = listed (λ k. c0At page n k) (countOf s)
-
-unfoldable pub c1Of : List ℕ → ℕ → Space → List ℤ
-c1Of page n s = listed (λ k. c1At page n k) (countOf s)
-
-abbrev pub separationOver : List ℕ → ℕ → Space → Space
-separationOver page n s = separation (exponentAt page n) (c0Of page n s) (c1Of page n s) s
-
--- the steps of the two, on values
-abbrev pub rowAt : List ℕ → ℕ → Space → List ℤ → List ℤ
-rowAt page n s v = rowStep (countOf s) (hivalAt page n) (tableOf page n s) v
-
-abbrev pub tintAt : List ℕ → ℕ → Space → List ℤ → List ℤ
-tintAt page n s v = tintStep (exponentAt page n) (countOf s) (c0Of page n s) (c1Of page n s) v
-
-abbrev pub plainAt : List ℕ → ℕ → Space
-plainAt page n = plainBy (kindAt page n) page n
-
--- a Separation over a plain space, or a plain space
-unfoldable pub tintedBy : ℕ → List ℕ → ℕ → Space
-tintedBy kind page n = cond (eqb kind 5) (separationOver page n (plainAt page (innerAt page n))) (plainBy kind page n)
-
-abbrev pub tintedAt : List ℕ → ℕ → Space
-tintedAt page n = tintedBy (kindAt page n) page n
+-- the step of an Indexed on values
+abbrev pub rowAt : List ℕ → ℕ → ℕ → Space → List ℤ → List ℤ
+rowAt page n hival s v = rowStep (countOf s) hival (tableOf page n hival s) v
 
 -- an Indexed over one of those, or one of those
-unfoldable pub spaceBy : ℕ → List ℕ → ℕ → Space
-spaceBy kind page n = cond (eqb kind 4) (indexedOver page n (tintedAt page (innerAt page n))) (tintedBy kind page n)
+unfoldable pub spaceOf : List ℕ → ℕ → Body → Space
+spaceOf page n Free = tintedOf page Free
+spaceOf page n (CalGray g) = tintedOf page (CalGray g)
+spaceOf page n (CalRgb g) = tintedOf page (CalRgb g)
+spaceOf page n (Lab g) = tintedOf page (Lab g)
+spaceOf page n (Indexed base hival) = indexedOver page n hival (tintedAt page base)
+spaceOf page n (Separation p) = tintedOf page (Separation p)
+spaceOf page n Palette = tintedOf page Palette
 
 abbrev pub spaceAt : List ℕ → ℕ → Space
-spaceAt page n = spaceBy (kindAt page n) page n
+spaceAt page n = numbered page (spaceOf page n) n

@@ -1,43 +1,58 @@
 // How many words a space's recipe has.
 ghost use mathlib.Core.Path.{_≡_};
 ghost use Prim.Native.Nat.{_+_, _*_, _≤_};
-ghost use Rattle.space.specs.Numbers.{rankAt};
 ghost use Rattle.space.specs.Spaces.{wordsOf};
-ghost use Rattle.space.specs.Pages.{entries, plainAt, spaceAt};
-use crate::numbers::inner;
-use crate::numbers::kind;
-use crate::ranges::components;
-use fixed::two;
+ghost use Rattle.space.specs.Pages.{entries, spaceAt};
+ghost use Rattle.space.specs.Levels.{plainIn, noRanges, spaceIn, rankIn};
+use crate::nesting::Level;
+use crate::nesting::level_at;
+use crate::nesting::plain_at;
+use crate::nesting::tinted_at;
+use crate::ranges::count;
+use cie::Closing;
 
-// The words of a plain space's recipe; 1, the count alone, for all others.
-fn plain_words(page: &[u8], n: u32) -> u32
-    ensures is { λ r. ⌜ r ≡ wordsOf (plainAt (now (page .entry)) n) ⌝ }
+// The words of a plain space's recipe; 1, the count alone, where there is no space.
+fn plain_words(c: Closing) -> u32
+    ensures is { λ r. ⌜ r ≡ wordsOf (plainIn c noRanges) ⌝ }
     ensures small { λ r. ⌜ r ≤ 26 ⌝ }
 {
-    match kind(page, n) {
-        0xFF01 => 6,
-        0xFF03 => 14,
-        0xFF04 => 18,
-        1 => 9,
-        2 => 26,
-        3 => 16,
-        _ => 1,
+    match c {
+        Closing::Nothing => 1,
+        Closing::Gray => 6,
+        Closing::Rgb => 14,
+        Closing::Cmyk => 18,
+        Closing::CalGray(_) => 9,
+        Closing::CalRgb(_) => 26,
+        Closing::Lab(_) => 16,
     }
 }
 
-// The words of the recipe of the space at a number: those of the space within, and what an Indexed or a Separation adds.
+// The words of the recipe of a level's space: those of the space within, and what an Indexed or a Separation adds.
+pub fn words_in(page: &[u8], l: Level) -> u32
+    ensures is { λ r. ⌜ r ≡ wordsOf (spaceIn (now (page .entry)) l) ⌝ }
+    ensures small { λ r. ⌜ r ≤ (entries + 26) * (rankIn l + 1) ⌝ }
+{
+    match l {
+        Level::Plain(c, _) => plain_words(c),
+        Level::Separation(p) => {
+            let s = plain_at(page, p.alternate);
+            3 + 2 * count(s) + words_in(page, s)
+        }
+        Level::Indexed {
+            block: _,
+            base,
+            hival,
+        } => {
+            let s = tinted_at(page, base);
+            3 + count(s) * (hival as u32 + 1) + words_in(page, s)
+        }
+    }
+}
+
+// The words of the recipe of the space at a number.
 pub fn words(page: &[u8], n: u32) -> u32
     ensures is { λ r. ⌜ r ≡ wordsOf (spaceAt (now (page .entry)) n) ⌝ }
-    ensures small { λ r. ⌜ r ≤ (entries + 26) * (rankAt (now (page .entry)) n + 1) ⌝ }
+    ensures small { λ r. ⌜ r ≤ (entries + 26) * 3 ⌝ }
 {
-    let k = kind(page, n);
-    if k == 4 {
-        let b = inner(page, n);
-        return 3 + components(page, b) * (two(page, n, 6) + 1) + words(page, b);
-    }
-    if k == 5 {
-        let b = inner(page, n);
-        return 3 + 2 * components(page, b) + words(page, b);
-    }
-    plain_words(page, n)
+    words_in(page, level_at(page, n))
 }

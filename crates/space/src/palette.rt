@@ -1,29 +1,30 @@
 // The palette of an Indexed block.
 ghost use mathlib.Core.Path.{_≡_};
 ghost use Prim.Native.Nat.{_<_, _≤_};
-ghost use Rattle.fixed.specs.Bytes.{blocks};
+ghost use Rattle.fixed.specs.Values.{places};
 ghost use Rattle.space.specs.Numbers.{paletteByte};
-ghost use Rattle.space.specs.Spaces.{countOf};
-ghost use Rattle.space.specs.Pages.{entries, spaceAt, entryOf};
-use crate::ranges::high;
-use crate::ranges::low;
-use fixed::byte;
+ghost use Rattle.space.specs.Spaces.{Space};
+ghost use Rattle.space.specs.Pages.{entries, entryOf};
+ghost use Rattle.space.specs.Levels.{Ranged};
+use fixed::VALUES;
 use fixed::palette_value;
+use record::ROOM;
+use record::palette_at;
 
 // Byte j of the palette after the Indexed block n.
-pub fn palette_byte(page: &[u8], n: u32, j: u32) -> u32
-    requires { ⌜ (n ≤ 65535) × (j ≤ entries) ⌝ }
+fn palette_byte(page: &[u8], n: u16, j: u32) -> u32
+    requires { ⌜ j ≤ entries ⌝ }
     ensures is { λ r. ⌜ r ≡ paletteByte (now (page .entry)) n j ⌝ }
     ensures small { λ r. ⌜ r ≤ 255 ⌝ }
 {
-    byte(page, n + 1 + j / 504, 4 + j % 504)
+    palette_at(page, n as u32 + 1 + j / ROOM, j % ROOM)
 }
 
-// Entry j of the table of the Indexed block n over the space b of m components.
-pub fn entry(page: &[u8], n: u32, b: u32, m: u32, j: u32) -> i32
-    requires { ⌜ (n < blocks) × (j ≤ entries) × (0 < m) × (m ≡ countOf (spaceAt (now page) b)) ⌝ }
-    ensures { λ r. ⌜ r ≡ entryOf (now (page .entry)) n (spaceAt (now (page .entry)) b) j ⌝ }
+// Entry j of the table of the Indexed block n over a space of m components, whose ranges are from lo to hi.
+pub fn entry(page: &[u8], n: u16, m: u32, lo: [i32; VALUES], hi: [i32; VALUES], j: u32) -> i32
+    requires { ⌜ (j ≤ entries) × (0 < m) × (m ≤ places) ⌝ }
+    ensures { λ r. ⌜ ((s : Space) → Ranged s m lo hi → r ≡ entryOf (now (page .entry)) n s j) ⌝ }
 {
-    let k = j % m;
-    palette_value(palette_byte(page, n, j), low(page, b, k), high(page, b, k))
+    let k = (j % m) as usize;
+    palette_value(palette_byte(page, n, j), lo[k], hi[k])
 }

@@ -1,119 +1,118 @@
-// The components of the space at a number, their ranges, and its closing step.
+// The components of a space, and the ends of their ranges.
 ghost use mathlib.Core.Path.{_≡_};
-ghost use Prim.Native.Nat.{_≤_};
-ghost use Rattle.space.specs.Spaces.{countOf, lowOf, highOf, closingOf};
-ghost use Rattle.space.specs.Pages.{grayNumbers, rgbNumbers, labNumbers, spaceAt};
-ghost use Rattle.fixed.specs.Bytes.{blockAt};
-ghost use Rattle.fixed.specs.Values.{places};
-use crate::numbers::kind;
+ghost use mathlib.Core.List.{List};
+ghost use Prim.Native.Nat.{ℕ, _≤_};
+ghost use Rattle.fixed.specs.Values.{places, listed};
+ghost use Rattle.space.specs.Spaces.{countOf, lowOf, highOf};
+ghost use Rattle.space.specs.Pages.{spaceAt};
+ghost use Rattle.space.specs.Levels.{plainIn, noRanges, spaceIn, isLab};
+use crate::nesting::Level;
+use crate::nesting::level_at;
 use cie::Closing;
-use cie::GrayClosing;
-use cie::LabClosing;
-use cie::RgbClosing;
-use fixed::number;
+use fixed::VALUES;
+use record::Ranges;
 
-// How many components it has, 0 where the number is no space's.
+// How many components a plain space has, by its closing step.
+pub fn plain_count(c: Closing) -> u32
+    ensures is { λ r. ⌜ r ≡ countOf (plainIn c noRanges) ⌝ }
+    ensures small { λ r. ⌜ r ≤ places ⌝ }
+{
+    match c {
+        Closing::Nothing => 0,
+        Closing::Gray => 1,
+        Closing::Rgb => 3,
+        Closing::Cmyk => 4,
+        Closing::CalGray(_) => 1,
+        Closing::CalRgb(_) => 3,
+        Closing::Lab(_) => 3,
+    }
+}
+
+// How many a level has, 0 where there is no space.
+pub fn count(l: Level) -> u32
+    ensures is { λ r. ⌜ ((page : List ℕ) → r ≡ countOf (spaceIn page l)) ⌝ }
+    ensures small { λ r. ⌜ r ≤ places ⌝ }
+{
+    match l {
+        Level::Plain(c, _) => plain_count(c),
+        Level::Separation(_) => 1,
+        Level::Indexed {
+            block: _,
+            base: _,
+            hival: _,
+        } => 1,
+    }
+}
+
+// How many the space at a number has, 0 where the number is no space's.
 pub fn components(page: &[u8], n: u32) -> u32
     ensures is { λ r. ⌜ r ≡ countOf (spaceAt (now (page .entry)) n) ⌝ }
     ensures small { λ r. ⌜ r ≤ places ⌝ }
 {
-    match kind(page, n) {
-        0xFF01 => 1,
-        0xFF03 => 3,
-        0xFF04 => 4,
-        1 => 1,
-        2 => 3,
-        3 => 3,
-        4 => 1,
-        5 => 1,
-        _ => 0,
+    count(level_at(page, n))
+}
+
+// Whether a closing step is Lab's.
+fn is_lab(c: Closing) -> bool
+    ensures { λ r. ⌜ r ≡ isLab c ⌝ }
+{
+    match c {
+        Closing::Nothing => false,
+        Closing::Gray => false,
+        Closing::Rgb => false,
+        Closing::Cmyk => false,
+        Closing::CalGray(_) => false,
+        Closing::CalRgb(_) => false,
+        Closing::Lab(_) => true,
     }
 }
 
-// The low end of component k's range.
-pub fn low(page: &[u8], n: u32, k: u32) -> i32
-    ensures { λ r. ⌜ r ≡ lowOf (spaceAt (now (page .entry)) n) k ⌝ }
+// The low end of each component's range in a plain space.
+pub fn plain_lows(c: Closing, q: Ranges) -> [i32; VALUES]
+    ensures { λ r. ⌜ r ≡ listed (lowOf (plainIn c q)) places ⌝ }
 {
-    if kind(page, n) == 3 {
-        if k == 0 {
-            return 0;
-        }
-        if k == 1 {
-            return number(page, n, 28);
-        }
-        return number(page, n, 36);
+    if is_lab(c) {
+        return [0, q.amin, q.bmin, q.bmin];
     }
-    0
+    [0; VALUES]
 }
 
-// The high end of component k's range.
-pub fn high(page: &[u8], n: u32, k: u32) -> i32
-    ensures { λ r. ⌜ r ≡ highOf (spaceAt (now (page .entry)) n) k ⌝ }
+// The high ends.
+pub fn plain_highs(c: Closing, q: Ranges) -> [i32; VALUES]
+    ensures { λ r. ⌜ r ≡ listed (highOf (plainIn c q)) places ⌝ }
 {
-    if kind(page, n) == 3 {
-        if k == 0 {
-            return 100000000;
-        }
-        if k == 1 {
-            return number(page, n, 32);
-        }
-        return number(page, n, 40);
+    if is_lab(c) {
+        return [100000000, q.amax, q.bmax, q.bmax];
     }
-    1000000
+    [1000000; VALUES]
 }
 
-// The numbers of CalGray's closing step, from its record.
-fn gray_numbers(page: &[u8], n: u32) -> GrayClosing
-    ensures { λ r. ⌜ r ≡ grayNumbers (blockAt (now (page .entry)) n) ⌝ }
+// The low end of each component's range in a level's space.
+pub fn lows(l: Level) -> [i32; VALUES]
+    ensures { λ r. ⌜ ((page : List ℕ) → r ≡ listed (lowOf (spaceIn page l)) places) ⌝ }
 {
-    GrayClosing {
-        xw: number(page, n, 4),
-        zw: number(page, n, 12),
-        gamma: number(page, n, 28),
+    match l {
+        Level::Plain(c, q) => plain_lows(c, q),
+        Level::Separation(_) => [0; VALUES],
+        Level::Indexed {
+            block: _,
+            base: _,
+            hival: _,
+        } => [0; VALUES],
     }
 }
 
-// The numbers of CalRGB's closing step, the matrix in the record's order.
-fn rgb_numbers(page: &[u8], n: u32) -> RgbClosing
-    ensures { λ r. ⌜ r ≡ rgbNumbers (blockAt (now (page .entry)) n) ⌝ }
+// The high ends.
+pub fn highs(l: Level) -> [i32; VALUES]
+    ensures { λ r. ⌜ ((page : List ℕ) → r ≡ listed (highOf (spaceIn page l)) places) ⌝ }
 {
-    RgbClosing {
-        ga: number(page, n, 28),
-        gb: number(page, n, 32),
-        gc: number(page, n, 36),
-        xa: number(page, n, 40),
-        ya: number(page, n, 44),
-        za: number(page, n, 48),
-        xb: number(page, n, 52),
-        yb: number(page, n, 56),
-        zb: number(page, n, 60),
-        xc: number(page, n, 64),
-        yc: number(page, n, 68),
-        zc: number(page, n, 72),
-    }
-}
-
-// The numbers of Lab's closing step.
-fn lab_numbers(page: &[u8], n: u32) -> LabClosing
-    ensures { λ r. ⌜ r ≡ labNumbers (blockAt (now (page .entry)) n) ⌝ }
-{
-    LabClosing {
-        xw: number(page, n, 4),
-        zw: number(page, n, 12),
-    }
-}
-
-// The closing step of a plain space, with its numbers.
-pub fn closing_at(page: &[u8], n: u32) -> Closing
-    ensures { λ r. ⌜ r ≡ closingOf (spaceAt (now (page .entry)) n) ⌝ }
-{
-    match kind(page, n) {
-        0xFF01 => Closing::Gray,
-        0xFF03 => Closing::Rgb,
-        0xFF04 => Closing::Cmyk,
-        1 => Closing::CalGray(gray_numbers(page, n)),
-        2 => Closing::CalRgb(rgb_numbers(page, n)),
-        3 => Closing::Lab(lab_numbers(page, n)),
-        _ => Closing::Nothing,
+    match l {
+        Level::Plain(c, q) => plain_highs(c, q),
+        Level::Separation(_) => [1000000; VALUES],
+        Level::Indexed {
+            block: _,
+            base: _,
+            hival: _,
+        } => [1000000; VALUES],
     }
 }

@@ -118,7 +118,7 @@ returns-7 : tie.Need-returns-7
 unfolding puts
 returns-7 c =
     let at-put-run = c .before .before in
-    let at-enum-told2 = at-put-run .before .before in
+    let at-enum-told2 = at-put-run .before .before .before in
     let start = at-enum-told2 .before .before .before in
     at-put-run .put-run .ensures ∙ (λ i. puts (now (start .args .out)) 4 (body (sym (at-enum-told2 .enum-told2 .given .1) i) (now (start .args .s)) ++ rest (sym (at-enum-told2 .enum-told2 .given .1) i)))
 

@@ -1,11 +1,13 @@
--- The loop's invariant: the first k values are limited.
-use lib.ListN.{getD}
-use lib.IntN.{pos}
+-- The loop's invariant: the first k values are limited, each to its range in every space that lo and hi are the ranges of.
 use mathlib.Core.Path.{_≡_, refl, _∙_}
 use Prim.Native.Nat.{_≤_, _-_}
 use native.Mathlib.Omega.{arith}
+use Rattle.fixed.specs.Numbers.{limited}
+use Rattle.fixed.specs.Values.{value}
 use Rattle.fixed.proofs.Signs.{came, heard}
-use Rattle.space.specs.Pages.{spaceAt}
+use Rattle.space.specs.Spaces.{Space}
+use Rattle.space.specs.Levels.{Ranged}
+use Rattle.space.proofs.Ends.{low-at, high-at}
 use Rattle.colour.specs.Colours.{limitedTo}
 use Rattle.colour.proofs.Steps.{limited-turn}
 use borrow.Author.Needs.{needs}
@@ -13,17 +15,14 @@ use Rattle.colour.proofs.values.limit_all.Statement.{statement}
 use Rattle.colour.proofs.values.limit_all.Tie as tie
 
 abbrev Inv-loop : tie.InvT-loop
-Inv-loop page n m u₀ k₀ u k = (k ≤ m) × (u ≡ limitedTo (spaceAt page n) k u₀)
+Inv-loop m lo hi u₀ k₀ u k = (k ≤ m) × ((s : Space) → Ranged s m lo hi → u ≡ limitedTo s k u₀)
 
 abbrev μ-loop : tie.MeasureT-loop
-μ-loop page n m u₀ k₀ u k = m - k
+μ-loop m lo hi u₀ k₀ u k = m - k
 
 loop-holds : tie.Need-loop-holds Inv-loop μ-loop
 unfolding limitedTo
-loop-holds c = (omega arith, refl)
-
-cast-i : tie.Need-cast-i Inv-loop μ-loop
-cast-i c = search needs
+loop-holds c = (omega arith, λ s r. refl)
 
 mul-limit : tie.Need-mul-limit Inv-loop μ-loop
 mul-limit c = search needs
@@ -31,11 +30,17 @@ mul-limit c = search needs
 array-copy-out-limit : tie.Need-array-copy-out-limit Inv-loop μ-loop
 array-copy-out-limit c = search needs
 
-low-requires : tie.Need-low-requires Inv-loop μ-loop
-low-requires c κs = search needs
+mul-limit-2 : tie.Need-mul-limit-2 Inv-loop μ-loop
+mul-limit-2 c = search needs
 
-high-requires : tie.Need-high-requires Inv-loop μ-loop
-high-requires c κs = search needs
+array-copy-out-limit-2 : tie.Need-array-copy-out-limit-2 Inv-loop μ-loop
+array-copy-out-limit-2 c = search needs
+
+mul-limit-3 : tie.Need-mul-limit-3 Inv-loop μ-loop
+mul-limit-3 c = search needs
+
+array-copy-out-limit-3 : tie.Need-array-copy-out-limit-3 Inv-loop μ-loop
+array-copy-out-limit-3 c = search needs
 
 limit-requires : tie.Need-limit-requires Inv-loop μ-loop
 limit-requires c κs = search needs
@@ -54,22 +59,22 @@ loop-less c = omega arith
 
 loop-again : tie.Need-loop-again Inv-loop μ-loop
 loop-again c =
-    let loop = c .before .before .before .before .before .loop in
-    let low = c .before .before .low in
-    let high = c .before .high in
-    let limit-arg = c .before .before .before .limit-arg in (
+    let args = c .before .before .before .before .before .before .args in
+    let loop = c .before .before .before .before .before .loop in (
       omega arith,
-      limited-turn _ _ _ (loop .inv .1)
-          (heard _ (c .limit .ok)
-          (c .limit .ensures ∙
-          simp (heard _ (low .ok) (low .ensures), heard _ (high .ok) (high .ensures), came (getD (loop .u) (loop .k) (pos 0)) (limit-arg .given)))),
+      λ s r.
+          limited-turn s (loop .k) _ (loop .inv .1 s r)
+          (heard _ (c .limit .ok) (c .limit .ensures ∙
+          (λ i. limited
+          ((came (value (args .t2) (loop .k)) (c .before .before .limit-arg2 .given) ∙ low-at r (loop .k) (omega arith)) i)
+          ((came (value (args .t3) (loop .k)) (c .before .limit-arg3 .given) ∙ high-at r (loop .k) (omega arith)) i)
+          (came (value (loop .u) (loop .k)) (c .before .before .before .limit-arg .given) i)))),
     )
 
 returns : tie.Need-returns Inv-loop μ-loop
 returns c =
     let loop = c .before .loop in
-    let args = c .before .before .before .args in
-    let e : loop .k ≡ args .m = omega arith in loop .inv .1 ∙ rw e
+    let e : loop .k ≡ c .before .before .args .m = omega arith in λ s r. loop .inv .1 s r ∙ rw e
 
 pub limit-all-spec : {M : Type 1} → statement M
 limit-all-spec =
@@ -78,11 +83,12 @@ limit-all-spec =
     Inv-loop
     μ-loop
     loop-holds
-    cast-i
     mul-limit
     array-copy-out-limit
-    low-requires
-    high-requires
+    mul-limit-2
+    array-copy-out-limit-2
+    mul-limit-3
+    array-copy-out-limit-3
     limit-requires
     mul-u
     array-set-from-u

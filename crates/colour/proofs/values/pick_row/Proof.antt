@@ -1,24 +1,19 @@
--- Value 0 picks a row of the palette, which is the table's.
-use mir.Syntax.{w32}
-use mir.Val.{toZ, ofZ}
+-- `pick_row`: the row that value 0 picks of the table over the base.
 use mathlib.Core.Path.{_∙_}
 use native.Mathlib.Omega.{arith}
+use mir.Syntax.{w32}
+use mir.Val.{toZ, ofZ}
 use Rattle.fixed.specs.Values.{value}
 use Rattle.fixed.proofs.Signs.{came}
 use Rattle.fixed.proofs.Listed.{index-le}
+use Rattle.space.specs.Levels.{spaceIn}
 use Rattle.colour.proofs.Steps.{few-rows, row-picked}
 use borrow.Author.Needs.{needs}
 use Rattle.colour.proofs.values.pick_row.Statement.{statement}
 use Rattle.colour.proofs.values.pick_row.Tie as tie
 
-inner-requires : tie.Need-inner-requires
-inner-requires c κs = search needs
-
-components-requires : tie.Need-components-requires
-components-requires c κs = search needs
-
-two-requires : tie.Need-two-requires
-two-requires c κs = search needs
+count-requires : tie.Need-count-requires
+count-requires c κs = search needs
 
 array-copy-out-round-index : tie.Need-array-copy-out-round-index
 array-copy-out-round-index c = search needs
@@ -26,48 +21,35 @@ array-copy-out-round-index c = search needs
 round-index-requires : tie.Need-round-index-requires
 round-index-requires c κs = search needs
 
+lows-requires : tie.Need-lows-requires
+lows-requires c κs = search needs
+
+highs-requires : tie.Need-highs-requires
+highs-requires c κs = search needs
+
 mul-fill-row : tie.Need-mul-fill-row
-mul-fill-row c =
-    let args = c .before .before .before .before .before .before .args in
-    let components = c .before .before .before .components in
-    let two = c .before .before .two in
-    let i = index-le _ _ (toZ w32 (ofZ w32 (value (args .t3) 0))) (c .round-index .ensures) in
-    omega (arith, few-rows (c .round-index .result) (components .result) (two .result) i (components .ensures .1) (two .ensures .1))
+mul-fill-row c = omega (arith, few-rows (c .before .before .round-index .result) (c .before .before .before .before .count .result) (c .before .before .before .before .before .before .args .hival) (index-le _ _ (toZ w32 (ofZ w32 (value (c .before .before .before .before .before .before .args .t5) 0))) (c .before .before .round-index .ensures)) (c .before .before .before .before .count .ensures .1) (search needs))
 
 fill-row-requires : tie.Need-fill-row-requires
-fill-row-requires c κs =
-    let args = c .before .before .before .before .before .before .args in
-    let pre = c .before .before .before .before .before .before .pre in
-    let components = c .before .before .before .components in
-    let two = c .before .before .two in
-    let i = index-le _ _ (toZ w32 (ofZ w32 (value (args .t3) 0))) (c .round-index .ensures) in (
-      pre,
-      few-rows (c .round-index .result) (components .result) (two .result) i (components .ensures .1) (two .ensures .1),
-      components .ensures .1,
-      components .ensures .0,
-    )
+fill-row-requires c κs = (few-rows _ _ _ (index-le _ _ (toZ w32 (ofZ w32 (value (c .before .before .before .before .before .before .args .t5) 0))) (c .before .before .round-index .ensures)) (c .before .before .before .before .count .ensures .1) (search needs), c .before .before .before .before .count .ensures .1)
 
 returns : tie.Need-returns
 returns c =
-    let args = c .before .before .before .before .before .before .before .args in
-    let inner = c .before .before .before .before .before .inner in
-    let components = c .before .before .before .before .components in
-    let round-index-arg = c .before .before .round-index-arg in
-    let two = c .before .before .before .two in
-    let round-index = c .before .round-index in
-    c .fill-row .ensures ∙
-    row-picked _ _ _ _ _ (toZ w32 (ofZ w32 (value (args .t3) 0))) _ (inner .ensures .0) (components .ensures .0) (came (value (args .t3) 0) (round-index-arg .given))
-    _ _ (two .ensures .0) (round-index .ensures)
+    let a = c .before .before .before .before .before .before .before .args in
+    let s = spaceIn (a .page .now) (a .s) in
+    let m = c .before .before .before .before .before .count in
+    c .fill-row .ensures s (record { count = m .ensures .0 _; low = c .before .before .lows .ensures _; high = c .before .highs .ensures _ }) ∙
+    row-picked _ _ _ s (a .t5) (m .result) _ (toZ w32 (ofZ w32 (value (a .t5) 0))) (m .ensures .0 _) (came (value (a .t5) 0) (c .before .before .before .before .round-index-arg .given)) (c .before .before .before .round-index .ensures)
 
 pub pick-row-spec : {M : Type 1} → statement M
 pick-row-spec =
     tie.close
     (tie.spec
-    inner-requires
-    components-requires
-    two-requires
+    count-requires
     array-copy-out-round-index
     round-index-requires
+    lows-requires
+    highs-requires
     mul-fill-row
     fill-row-requires
     returns)

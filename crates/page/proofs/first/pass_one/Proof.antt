@@ -1,16 +1,14 @@
--- The first pass: blocks below i have no fault; past the last, what is left is the second pass.
-use mathlib.Core.Path.{_∙_}
+-- The first pass: blocks below i have no fault.
 use Prim.Native.Nat.{_-_}
-use Rattle.fixed.specs.Loops.{firstFrom}
 use Rattle.fixed.proofs.Scans.{Clean, clean-start, clean-turn, clean-stop, clean-end}
 use Rattle.page.specs.Outcomes.{accepted, refused}
-use Rattle.page.specs.Validation.{faultOne, faultTwo}
+use Rattle.page.specs.Validation.{faultOne}
 use borrow.Author.Needs.{needs}
 use Rattle.page.proofs.first.pass_one.Statement.{statement}
 use Rattle.page.proofs.first.pass_one.Tie as tie
 
 abbrev Inv-loop : tie.InvT-loop
-Inv-loop page n i₀ i = Clean (firstFrom accepted refused (faultTwo page) 0 n) refused (faultOne page) n i
+Inv-loop page n i₀ i = Clean accepted refused (faultOne page) n i
 
 abbrev μ-loop : tie.MeasureT-loop
 μ-loop page n i₀ i = n - i
@@ -33,11 +31,8 @@ loop-less c = search needs
 loop-again : tie.Need-loop-again Inv-loop μ-loop
 loop-again c = clean-turn _ _ _ _ _ _ (c .before .before .before .loop .inv) (c .before .before .loop-test .taken) (c .before .fault-one .ensures) (c .if1 .left)
 
-pass-two-requires : tie.Need-pass-two-requires Inv-loop μ-loop
-pass-two-requires c κs = search needs
-
 returns-2 : tie.Need-returns-2 Inv-loop μ-loop
-returns-2 c = c .pass-two .ensures ∙ clean-end _ _ _ _ _ (c .before .before .loop .inv) (c .before .loop-test .left)
+returns-2 c = clean-end _ _ _ _ _ (c .before .loop .inv) (c .loop-test .left)
 
 pub pass-one-spec : {M : Type 1} → statement M
 pass-one-spec =
@@ -51,5 +46,4 @@ pass-one-spec =
     add-i
     loop-less
     loop-again
-    pass-two-requires
     returns-2)

@@ -1,17 +1,18 @@
 -- `all_palettes` scans: the blocks below k pass.
 use mathlib.Core.Path.{sym, _∙_}
 use Prim.Native.Nat.{_-_}
-use borrow.Author.Tests.{eq-eqb, ne-eqb}
-use lib.Dec.{eqb}
+use borrow.Author.Tests.{not-true, not-false}
 use Rattle.fixed.proofs.Scans.{Passing, passing-start, passing-turn, passing-stop, passing-end}
-use Rattle.space.specs.Numbers.{kindAt}
+use Rattle.fixed.specs.Bytes.{blockAt}
+use Rattle.record.specs.Reading.{bodyAt}
+use Rattle.record.specs.Rules.{isPalette}
 use Rattle.page.specs.Validation.{palettes}
 use borrow.Author.Needs.{needs}
 use Rattle.page.proofs.second.all_palettes.Statement.{statement}
 use Rattle.page.proofs.second.all_palettes.Tie as tie
 
 abbrev Inv-loop : tie.InvT-loop
-Inv-loop page from to k₀ k = Passing (λ j. eqb (kindAt page j) 6) from to k
+Inv-loop page from to k₀ k = Passing (λ j. isPalette (bodyAt (blockAt page j))) from to k
 
 abbrev μ-loop : tie.MeasureT-loop
 μ-loop page from to k₀ k = to - k
@@ -19,12 +20,12 @@ abbrev μ-loop : tie.MeasureT-loop
 loop-holds : tie.Need-loop-holds Inv-loop μ-loop
 loop-holds c = passing-start _ _ _
 
-kind-requires : tie.Need-kind-requires Inv-loop μ-loop
-kind-requires c κs = search needs
+is-palette-requires : tie.Need-is-palette-requires Inv-loop μ-loop
+is-palette-requires c κs = search needs
 
 returns : tie.Need-returns Inv-loop μ-loop
 unfolding palettes
-returns c = passing-stop _ _ _ _ (c .before .before .before .loop .inv) (c .before .before .loop-test .taken) (ne-eqb _ _ (λ z. c .if1 .taken (c .before .kind .ensures ∙ z)))
+returns c = passing-stop _ _ _ _ (c .before .before .before .loop .inv) (c .before .before .loop-test .taken) (sym (c .before .is-palette .ensures) ∙ not-true _ (c .if1 .taken))
 
 add-k : tie.Need-add-k Inv-loop μ-loop
 add-k c = search needs
@@ -33,7 +34,7 @@ loop-less : tie.Need-loop-less Inv-loop μ-loop
 loop-less c = search needs
 
 loop-again : tie.Need-loop-again Inv-loop μ-loop
-loop-again c = passing-turn _ _ _ _ (c .before .before .before .loop .inv) (c .before .before .loop-test .taken) (eq-eqb _ _ (sym (c .before .kind .ensures) ∙ c .if1 .left))
+loop-again c = passing-turn _ _ _ _ (c .before .before .before .loop .inv) (c .before .before .loop-test .taken) (sym (c .before .is-palette .ensures) ∙ not-false _ (c .if1 .left))
 
 returns-2 : tie.Need-returns-2 Inv-loop μ-loop
 unfolding palettes
@@ -46,7 +47,7 @@ all-palettes-spec =
     Inv-loop
     μ-loop
     loop-holds
-    kind-requires
+    is-palette-requires
     returns
     add-k
     loop-less

@@ -1,6 +1,7 @@
 -- `holds`: an Indexed block has a run after it, a Separation zeros past its counts, and a palette block is claimed.
 use mathlib.Core.Path.{ap, _∙_}
-use Rattle.page.specs.Validation.{runHeld, unusedZero, held}
+use Rattle.page.specs.Validation.{within, runHeld, unusedZero, held}
+use Rattle.page.proofs.Permits.{size-within}
 use borrow.Author.Needs.{needs}
 use Rattle.page.proofs.second.holds.Statement.{statement}
 use Rattle.page.proofs.second.holds.Tie as tie
@@ -17,8 +18,8 @@ enum-told-3 c = search needs
 enum-told-4 : tie.Need-enum-told-4
 enum-told-4 c = search needs
 
-enum-told-5 : tie.Need-enum-told-5
-enum-told-5 c = search needs
+enum-known-y : tie.Need-enum-known-y
+enum-known-y c = search needs
 
 palette-size-requires : tie.Need-palette-size-requires
 palette-size-requires c κs = search needs
@@ -26,20 +27,14 @@ palette-size-requires c κs = search needs
 run-held-requires : tie.Need-run-held-requires
 run-held-requires c κs = search needs
 
-enum-known-y : tie.Need-enum-known-y
-enum-known-y c = search needs
-
-cast-components : tie.Need-cast-components
-cast-components c = search needs
-
-components-requires : tie.Need-components-requires
-components-requires c κs = search needs
+enum-known-y-2 : tie.Need-enum-known-y-2
+enum-known-y-2 c = search needs
 
 unused-zero-requires : tie.Need-unused-zero-requires
 unused-zero-requires c κs = search needs
 
-enum-told-6 : tie.Need-enum-told-6
-enum-told-6 c = search needs
+enum-told-5 : tie.Need-enum-told-5
+enum-told-5 c = search needs
 
 returns : tie.Need-returns
 unfolding held
@@ -59,15 +54,15 @@ returns-4 c = rw (c .enum-told4 .given .1)
 
 returns-5 : tie.Need-returns-5
 unfolding held
-returns-5 c = rw (c .before .before .enum-told5 .given .1) (c .run-held .ensures ∙ ap (runHeld _ _) (c .before .palette-size .ensures .0))
+returns-5 c = rw (c .before .before .before .y .given .1) (c .run-held .ensures ∙ ap (runHeld _ _) (size-within _ _ _ (c .before .before .before .y .given .1) (c .before .before .before .before .before .before .pre .2) (c .before .palette-size .ensures .0)))
 
 returns-6 : tie.Need-returns-6
 unfolding held
-returns-6 c = rw (c .before .before .before .before .y .given .1) (c .unused-zero .ensures ∙ ap (unusedZero _ _) (c .before .components .ensures .0))
+returns-6 c = rw (c .before .before .y2 .given .1) (c .unused-zero .ensures ∙ ap (unusedZero _) (c .before .before .before .before .before .pre .2 ∙ ap (within _) (c .before .before .y2 .given .1)))
 
 returns-7 : tie.Need-returns-7
 unfolding held
-returns-7 c = rw (c .enum-told6 .given .1)
+returns-7 c = rw (c .enum-told5 .given .1)
 
 pub holds-spec : {M : Type 1} → statement M
 holds-spec =
@@ -77,14 +72,12 @@ holds-spec =
     enum-told-2
     enum-told-3
     enum-told-4
-    enum-told-5
+    enum-known-y
     palette-size-requires
     run-held-requires
-    enum-known-y
-    cast-components
-    components-requires
+    enum-known-y-2
     unused-zero-requires
-    enum-told-6
+    enum-told-5
     returns
     returns-2
     returns-3

@@ -6,6 +6,7 @@ use Prim.Native.Nat.{ℕ, _+_, _-_}
 use Rattle.fixed.specs.Bytes.{blockAt}
 use Rattle.fixed.proofs.Scans.{Clean, clean-start, clean-turn, clean-stop, clean-end}
 use Rattle.record.specs.Reading.{bodyAt}
+use Rattle.record.specs.declared.types.Body.{Body}
 use Rattle.page.specs.Outcomes.{accepted, refused}
 use Rattle.page.specs.Validation.{owedAt, owedAfter, faultOwed, faultTwo}
 use borrow.Author.Needs.{needs}
@@ -16,13 +17,15 @@ record At (page : List ℕ) (n i owed : ℕ) : Type 0 where
   clean : Clean accepted refused (faultTwo page) n i
   owed-is : owed ≡ owedAt page i
 
-fault-is : (page : List ℕ) (i owed number : ℕ) → owed ≡ owedAt page i → number ≡ faultOwed page i owed (bodyAt (blockAt page i)) → number ≡ faultTwo page i
-unfolding faultTwo
-fault-is page i owed number q e = e ∙ ap (λ (o : ℕ). faultOwed page i o (bodyAt (blockAt page i))) q
+-- y is the body of block i
+module _ (page : List ℕ) (i owed r : ℕ) {y : Body} (g : y ≡ bodyAt (blockAt page i)) (q : owed ≡ owedAt page i) where
+  fault-is : r ≡ faultOwed page i owed y → r ≡ faultTwo page i
+  unfolding faultTwo
+  fault-is e = e ∙ (λ j. faultOwed page i (q j) (g j))
 
-owed-next : (page : List ℕ) (i owed r : ℕ) → owed ≡ owedAt page i → r ≡ owedAfter page i owed → r ≡ owedAt page (i + 1)
-unfolding owedAt
-owed-next page i owed r q e = e ∙ ap (owedAfter page i) q ∙ sym (ap (owedAt page) (add-one i))
+  owed-next : r ≡ owedAfter page y owed → r ≡ owedAt page (i + 1)
+  unfolding owedAt
+  owed-next e = e ∙ (λ j. owedAfter page (g j) (q j)) ∙ sym (ap (owedAt page) (add-one i))
 
 abbrev Inv-loop : tie.InvT-loop
 Inv-loop page n i₀ owed₀ i owed = At page n i owed
@@ -34,11 +37,17 @@ loop-holds : tie.Need-loop-holds Inv-loop μ-loop
 unfolding owedAt
 loop-holds c = record { clean = clean-start _ _ _ _; owed-is = refl }
 
+body-at-requires : tie.Need-body-at-requires Inv-loop μ-loop
+body-at-requires c κs = search needs
+
+count-within-requires : tie.Need-count-within-requires Inv-loop μ-loop
+count-within-requires c κs = search needs
+
 fault-owed-requires : tie.Need-fault-owed-requires Inv-loop μ-loop
 fault-owed-requires c κs = search needs
 
 returns : tie.Need-returns Inv-loop μ-loop
-returns c = clean-stop _ _ _ _ _ _ (c .before .before .before .loop .inv .clean) (c .before .before .loop-test .taken) (fault-is _ _ _ _ (c .before .before .before .loop .inv .owed-is) (c .before .fault-owed .ensures)) (c .if1 .taken)
+returns c = clean-stop _ _ _ _ _ _ (c .before .before .before .before .before .loop .inv .clean) (c .before .before .before .before .loop-test .taken) (fault-is _ _ _ _ (c .before .before .before .body-at .ensures) (c .before .before .before .before .before .loop .inv .owed-is) (c .before .fault-owed .ensures)) (c .if1 .taken)
 
 owed-after-requires : tie.Need-owed-after-requires Inv-loop μ-loop
 owed-after-requires c κs = search needs
@@ -51,8 +60,8 @@ loop-less c = search needs
 
 loop-again : tie.Need-loop-again Inv-loop μ-loop
 loop-again c = record {
-  clean = clean-turn _ _ _ _ _ _ (c .before .before .before .before .loop .inv .clean) (c .before .before .before .loop-test .taken) (fault-is _ _ _ _ (c .before .before .before .before .loop .inv .owed-is) (c .before .before .fault-owed .ensures)) (c .before .if1 .left);
-  owed-is = owed-next _ _ _ _ (c .before .before .before .before .loop .inv .owed-is) (c .owed-after .ensures);
+  clean = clean-turn _ _ _ _ _ _ (c .before .before .before .before .before .before .loop .inv .clean) (c .before .before .before .before .before .loop-test .taken) (fault-is _ _ _ _ (c .before .before .before .before .body-at .ensures) (c .before .before .before .before .before .before .loop .inv .owed-is) (c .before .before .fault-owed .ensures)) (c .before .if1 .left);
+  owed-is = owed-next _ _ _ _ (c .before .before .before .before .body-at .ensures) (c .before .before .before .before .before .before .loop .inv .owed-is) (c .owed-after .ensures _ (c .before .before .before .count-within .ensures .0));
 }
 
 returns-2 : tie.Need-returns-2 Inv-loop μ-loop
@@ -65,6 +74,8 @@ pass-two-spec =
     Inv-loop
     μ-loop
     loop-holds
+    body-at-requires
+    count-within-requires
     fault-owed-requires
     returns
     owed-after-requires

@@ -4,14 +4,15 @@ use mathlib.Core.Bool.{Bool, _&&_}
 use mathlib.Core.List.{List}
 use Prim.Native.Nat.{ℕ, _+_, _-_, _*_}
 use Rattle.fixed.specs.Bytes.{blockAt}
-use Rattle.fixed.specs.Loops.{zeroBetween}
+use Rattle.record.specs.Layout.{room}
+use Rattle.record.specs.Rules.{paletteEnds}
 use Rattle.page.specs.Validation.{runLength, palettes, runHeld}
 use borrow.Author.Needs.{needs}
 use Rattle.page.proofs.second.run_held.Statement.{statement}
 use Rattle.page.proofs.second.run_held.Tie as tie
 
 both-held : (page : List ℕ) (i size n m : ℕ) {a b : Bool} → n ≡ runLength size → m ≡ n - 1 → a ≡ palettes page (i + 1) (i + 1 + n)
-    → b ≡ zeroBetween (blockAt page (i + n)) (4 + (size - 504 * m)) 508 → (a && b) ≡ runHeld page i size
+    → b ≡ paletteEnds (blockAt page (i + n)) (size - room * m) → (a && b) ≡ runHeld page i size
 unfolding runHeld
 both-held page i size n m e f g h = rw (g, h, f, e)
 
@@ -27,9 +28,6 @@ mul-used c = search needs
 sub-used : tie.Need-sub-used
 sub-used c = search needs
 
-add-used : tie.Need-add-used
-add-used c = search needs
-
 add-all-palettes : tie.Need-add-all-palettes
 add-all-palettes c = search needs
 
@@ -42,14 +40,14 @@ add-all-palettes-3 c = search needs
 all-palettes-requires : tie.Need-all-palettes-requires
 all-palettes-requires c κs = search needs
 
-add-zero-between : tie.Need-add-zero-between
-add-zero-between c = search needs
+add-palette-ends : tie.Need-add-palette-ends
+add-palette-ends c = search needs
 
-zero-between-requires : tie.Need-zero-between-requires
-zero-between-requires c κs = search needs
+palette-ends-requires : tie.Need-palette-ends-requires
+palette-ends-requires c κs = search needs
 
 returns : tie.Need-returns
-returns c = both-held _ _ _ _ _ (c .before .before .before .run-length .ensures) (c .before .before .less .ensures) (c .before .all-palettes .ensures) (c .zero-between .ensures)
+returns c = both-held _ _ _ _ _ (c .before .before .before .run-length .ensures) (c .before .before .less .ensures) (c .before .all-palettes .ensures) (c .palette-ends .ensures)
 
 pub run-held-spec : {M : Type 1} → statement M
 run-held-spec =
@@ -59,11 +57,10 @@ run-held-spec =
     less-requires
     mul-used
     sub-used
-    add-used
     add-all-palettes
     add-all-palettes-2
     add-all-palettes-3
     all-palettes-requires
-    add-zero-between
-    zero-between-requires
+    add-palette-ends
+    palette-ends-requires
     returns)

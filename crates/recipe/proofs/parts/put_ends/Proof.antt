@@ -1,26 +1,27 @@
 -- The limits, and the closing step after them.
-use mathlib.Core.Path.{refl}
-use Rattle.space.specs.Pages.{spaceAt}
+use mathlib.Core.Path.{refl, _∙_}
+use Rattle.space.specs.Levels.{plainIn}
+use Rattle.space.proofs.Ends.{whatever}
 use Rattle.recipe.proofs.Words.{ends-room, ends-set}
+use Rattle.recipe.proofs.Steps.{closing-is}
 use borrow.Author.Needs.{needs}
 use Rattle.recipe.proofs.parts.put_ends.Statement.{statement}
 use Rattle.recipe.proofs.parts.put_ends.Tie as tie
 
-components-requires : tie.Need-components-requires
-components-requires c κs = search needs
+plain-count-requires : tie.Need-plain-count-requires
+plain-count-requires c κs = search needs
+
+plain-lows-requires : tie.Need-plain-lows-requires
+plain-lows-requires c κs = search needs
+
+plain-highs-requires : tie.Need-plain-highs-requires
+plain-highs-requires c κs = search needs
 
 put-limits-requires : tie.Need-put-limits-requires
 put-limits-requires c κs =
-    let args = c .before .before .before .args in
-    let components = c .before .components in
-    let pre = c .before .before .before .pre in
-    let a = args in (
-      components .ensures .1,
-      ends-room (spaceAt (a .page .now) (a .n)) _ _ (components .ensures .0) refl (a .at) (a .words .now) (a .words .now) pre refl .0,
-    )
-
-closing-at-requires : tie.Need-closing-at-requires
-closing-at-requires c κs = search needs
+    let a = c .before .before .before .before .args in
+    let m = c .before .before .before .plain-count .ensures .0 ∙ whatever (a .q) (a .c) .0 in
+    (c .before .before .before .plain-count .ensures .1, ends-room (plainIn (a .c) (a .q)) _ _ m (closing-is (a .c) (a .q)) (a .at) (a .words .now) (a .words .now) (c .before .before .before .before .pre) refl .0)
 
 cast-put-closing : tie.Need-cast-put-closing
 cast-put-closing c = search needs
@@ -33,34 +34,28 @@ add-put-closing c = search needs
 
 put-closing-requires : tie.Need-put-closing-requires
 put-closing-requires c κs =
-    let args = c .before .before .before .before .before .before .before .args in
-    let components = c .before .before .before .before .before .components in
-    let closing-at = c .before .closing-at in
-    let put-limits = c .before .before .before .put-limits in
-    let pre = c .before .before .before .before .before .before .before .pre in
-    let a = args in
-    ends-room (spaceAt (a .page .now) (a .n)) _ _ (components .ensures .0) (closing-at .ensures) (a .at) (a .words .now)
-    (put-limits .last .1 .1 .1 .0) pre (put-limits .kept .1 .1 .1 .0) .1
+    let a = c .before .before .before .before .before .before .before .args in
+    let m = c .before .before .before .before .before .before .plain-count .ensures .0 ∙ whatever (a .q) (a .c) .0 in
+    ends-room (plainIn (a .c) (a .q)) _ _ m (closing-is (a .c) (a .q)) (a .at) (a .words .now) (c .before .before .put-limits .last .1 .1 .1 .0) (c .before .before .before .before .before .before .before .pre) (c .before .before .put-limits .kept .1 .1 .1 .0) .1
 
 same-length : tie.Need-same-length
 same-length c = search needs
 
 returns : tie.Need-returns
 returns c =
-    let args = c .before .before .before .before .before .before .before .before .before .args in
-    let components = c .before .before .before .before .before .before .before .components in
-    let closing-at = c .before .before .before .closing-at in
-    let put-limits = c .before .before .before .before .before .put-limits in
-    let put-closing = c .before .put-closing in
-    ends-set (spaceAt (args .page .now) (args .n)) _ _ (components .ensures .0) (closing-at .ensures) _ _ _ _ (put-limits .ensures) (put-closing .ensures)
+    let a = c .before .before .before .before .before .before .before .before .before .args in
+    let m = c .before .before .before .before .before .before .before .before .plain-count .ensures .0 ∙ whatever (a .q) (a .c) .0 in
+    let s = plainIn (a .c) (a .q) in
+    ends-set s _ _ m (closing-is (a .c) (a .q)) _ _ _ _ (c .before .before .before .before .put-limits .ensures s (record { count = m; low = c .before .before .before .before .before .before .before .plain-lows .ensures; high = c .before .before .before .before .before .before .plain-highs .ensures })) (c .before .put-closing .ensures)
 
 pub put-ends-spec : {M : Type 1} → statement M
 put-ends-spec =
     tie.close
     (tie.spec
-    components-requires
+    plain-count-requires
+    plain-lows-requires
+    plain-highs-requires
     put-limits-requires
-    closing-at-requires
     cast-put-closing
     mul-put-closing
     add-put-closing

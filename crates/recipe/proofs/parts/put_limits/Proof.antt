@@ -1,11 +1,14 @@
--- The loop's invariant: the limits of k components are stored.
-use mathlib.Core.Path.{_≡_, refl, _∙_, ap}
+-- The loop's invariant: the limits of k components are stored, those of every space that lo and hi are the ranges of.
+use mathlib.Core.Path.{_≡_, refl, _∙_}
 use Prim.Native.Nat.{_≤_, _-_}
 use native.Mathlib.Omega.{arith}
 use lib.ListN.{length}
-use lib.Seq.{sets, length-sets}
-use Rattle.fixed.proofs.Signs.{heard}
-use Rattle.space.specs.Pages.{spaceAt}
+use lib.Seq.{sets}
+use Rattle.fixed.specs.Values.{value}
+use Rattle.fixed.proofs.Signs.{came, heard}
+use Rattle.space.specs.Spaces.{Space}
+use Rattle.space.specs.Levels.{Ranged}
+use Rattle.space.proofs.Ends.{low-at, high-at}
 use Rattle.recipe.specs.Recipes.{limitsOf}
 use Rattle.recipe.proofs.Words.{limits-turn}
 use borrow.Author.Needs.{needs}
@@ -13,26 +16,20 @@ use Rattle.recipe.proofs.parts.put_limits.Statement.{statement}
 use Rattle.recipe.proofs.parts.put_limits.Tie as tie
 
 abbrev Inv-loop : tie.InvT-loop
-Inv-loop page n m words₀ at k₀ words k = (k ≤ m) × (words ≡ sets words₀ at (limitsOf (spaceAt page n) k))
+Inv-loop m words₀ at lo hi k₀ words k = (k ≤ m) × (length words ≡ length words₀) × ((s : Space) → Ranged s m lo hi → words ≡ sets words₀ at (limitsOf s k))
 
 abbrev μ-loop : tie.MeasureT-loop
-μ-loop page n m words₀ at k₀ words k = m - k
+μ-loop m words₀ at lo hi k₀ words k = m - k
 
 loop-holds : tie.Need-loop-holds Inv-loop μ-loop
 unfolding limitsOf
-loop-holds c = (omega arith, refl)
+loop-holds c = (omega arith, refl, λ s r. refl)
 
 word-of-requires : tie.Need-word-of-requires Inv-loop μ-loop
 word-of-requires c κs = search needs
 
-low-requires : tie.Need-low-requires Inv-loop μ-loop
-low-requires c κs = search needs
-
-high-requires : tie.Need-high-requires Inv-loop μ-loop
-high-requires c κs = search needs
-
-cast-put4 : tie.Need-cast-put4 Inv-loop μ-loop
-cast-put4 c = search needs
+cast-i : tie.Need-cast-i Inv-loop μ-loop
+cast-i c = search needs
 
 mul-put4 : tie.Need-mul-put4 Inv-loop μ-loop
 mul-put4 c = search needs
@@ -40,10 +37,20 @@ mul-put4 c = search needs
 add-put4 : tie.Need-add-put4 Inv-loop μ-loop
 add-put4 c = search needs
 
+mul-put4-2 : tie.Need-mul-put4-2 Inv-loop μ-loop
+mul-put4-2 c = search needs
+
+array-copy-out-put4 : tie.Need-array-copy-out-put4 Inv-loop μ-loop
+array-copy-out-put4 c = search needs
+
+mul-put4-3 : tie.Need-mul-put4-3 Inv-loop μ-loop
+mul-put4-3 c = search needs
+
+array-copy-out-put4-2 : tie.Need-array-copy-out-put4-2 Inv-loop μ-loop
+array-copy-out-put4-2 c = search needs
+
 put4-requires : tie.Need-put4-requires Inv-loop μ-loop
-put4-requires c κs =
-    let loop = c .before .before .before .before .before .loop in
-    simp (loop .inv .1, length-sets) (omega arith)
+put4-requires c κs = omega (arith, c .before .before .before .before .before .loop .inv .1)
 
 add-k : tie.Need-add-k Inv-loop μ-loop
 add-k c = search needs
@@ -53,24 +60,23 @@ loop-less c = omega arith
 
 loop-again : tie.Need-loop-again Inv-loop μ-loop
 loop-again c =
-    let loop = c .before .before .before .before .before .before .before .loop in
-    let word-of = c .before .before .before .before .before .word-of in
-    let low = c .before .before .before .before .low in
-    let high = c .before .before .before .high in
-    let put4 = c .before .put4 in (
+    let a = c .before .before .before .before .before .before .before .before .args in
+    let loop = c .before .before .before .before .before .before .before .loop in (
       omega arith,
-      limits-turn _ _ _ _ (loop .inv .1) (heard _ (word-of .ok) (word-of .ensures)) (heard _ (low .ok) (low .ensures)) (heard _ (high .ok) (high .ensures))
-          (put4 .ensures),
+      c .before .put4 .kept .0 ∙ loop .inv .1,
+      λ s r.
+          limits-turn s _ _ (loop .k) (loop .inv .2 s r) (heard _ (c .before .before .before .before .before .word-of .ok) (c .before .before .before .before .before .word-of .ensures))
+          (came (value (a .t2) (loop .k)) (c .before .before .before .put4-arg2 .given) ∙ low-at r (loop .k) (omega arith)) (came (value (a .t3) (loop .k)) (c .before .before .put4-arg3 .given) ∙ high-at r (loop .k) (omega arith))
+          (c .before .put4 .ensures),
     )
 
 same-length : tie.Need-same-length Inv-loop μ-loop
-same-length c = ap length (c .before .loop .inv .1) ∙ simp length-sets
+same-length c = c .before .loop .inv .1
 
 returns : tie.Need-returns Inv-loop μ-loop
 returns c =
     let loop = c .before .loop in
-    let args = c .before .before .before .args in
-    let e : loop .k ≡ args .m = omega arith in loop .inv .1 ∙ rw e
+    let e : loop .k ≡ c .before .before .args .m = omega arith in λ s r. loop .inv .2 s r ∙ rw e
 
 pub put-limits-spec : {M : Type 1} → statement M
 put-limits-spec =
@@ -80,11 +86,13 @@ put-limits-spec =
     μ-loop
     loop-holds
     word-of-requires
-    low-requires
-    high-requires
-    cast-put4
+    cast-i
     mul-put4
     add-put4
+    mul-put4-2
+    array-copy-out-put4
+    mul-put4-3
+    array-copy-out-put4-2
     put4-requires
     add-k
     loop-less

@@ -1,29 +1,31 @@
--- The loop's invariant: j entries of the table are stored.
-use mathlib.Core.Path.{_≡_, refl, _∙_, ap}
+-- The loop's invariant: the first j entries are stored, over every space that lo and hi are the ranges of.
+use mathlib.Core.Path.{_≡_, refl, _∙_}
 use Prim.Native.Nat.{_≤_, _-_}
 use native.Mathlib.Omega.{arith}
-use lib.ListN.{length}
-use lib.Seq.{sets, length-sets}
+use lib.ListN.{length, length-set}
+use lib.Seq.{sets}
 use Rattle.fixed.specs.Values.{listed}
-use Rattle.fixed.proofs.Listed.{listed-turn}
 use Rattle.fixed.proofs.Signs.{heard}
-use Rattle.space.specs.Pages.{spaceAt, entryOf}
+use Rattle.fixed.proofs.Listed.{listed-turn}
+use Rattle.space.specs.Spaces.{Space}
+use Rattle.space.specs.Pages.{entryOf}
+use Rattle.space.specs.Levels.{Ranged}
 use borrow.Author.Needs.{needs}
 use Rattle.recipe.proofs.parts.put_table.Statement.{statement}
 use Rattle.recipe.proofs.parts.put_table.Tie as tie
 
 abbrev Inv-loop : tie.InvT-loop
-Inv-loop page n b m count words₀ at j₀ words j = (j ≤ count) × (words ≡ sets words₀ at (listed (entryOf page n (spaceAt page b)) j))
+Inv-loop page n m lo hi size words₀ at j₀ words j = (j ≤ size) × (length words ≡ length words₀) × ((s : Space) → Ranged s m lo hi → words ≡ sets words₀ at (listed (entryOf page n s) j))
 
 abbrev μ-loop : tie.MeasureT-loop
-μ-loop page n b m count words₀ at j₀ words j = count - j
+μ-loop page n m lo hi size words₀ at j₀ words j = size - j
 
 loop-holds : tie.Need-loop-holds Inv-loop μ-loop
 unfolding listed
-loop-holds c = (omega arith, refl)
+loop-holds c = (omega arith, refl, λ s r. refl)
 
 entry-requires : tie.Need-entry-requires Inv-loop μ-loop
-entry-requires c κs = omega arith
+entry-requires c κs = search needs
 
 cast-x : tie.Need-cast-x Inv-loop μ-loop
 cast-x c = search needs
@@ -35,7 +37,7 @@ mul-x : tie.Need-mul-x Inv-loop μ-loop
 mul-x c = search needs
 
 slice-set-from-x : tie.Need-slice-set-from-x Inv-loop μ-loop
-slice-set-from-x c = simp (c .before .before .loop .inv .1, length-sets) (omega arith)
+slice-set-from-x c = omega (arith, c .before .before .loop .inv .1)
 
 add-j : tie.Need-add-j Inv-loop μ-loop
 add-j c = search needs
@@ -45,21 +47,20 @@ loop-less c = omega arith
 
 loop-again : tie.Need-loop-again Inv-loop μ-loop
 loop-again c =
-    let args = c .before .before .before .before .args in
-    let loop = c .before .before .loop in
-    let a = args in (
+    let a = c .before .before .before .before .args in
+    let loop = c .before .before .loop in (
       omega arith,
-      listed-turn (entryOf (a .page .now) (a .n) (spaceAt (a .page .now) (a .b))) _ _ _ (loop .inv .1) (heard _ (c .entry .ok) (c .entry .ensures)),
+      simp length-set (loop .inv .1),
+      λ s r. listed-turn (entryOf (a .page .now) (a .n) s) _ _ _ (loop .inv .2 s r) (heard _ (c .entry .ok) (c .entry .ensures s r)),
     )
 
 same-length : tie.Need-same-length Inv-loop μ-loop
-same-length c = ap length (c .before .loop .inv .1) ∙ simp length-sets
+same-length c = c .before .loop .inv .1
 
 returns : tie.Need-returns Inv-loop μ-loop
 returns c =
     let loop = c .before .loop in
-    let args = c .before .before .before .args in
-    let e : loop .j ≡ args .count = omega arith in loop .inv .1 ∙ rw e
+    let e : loop .j ≡ c .before .before .before .args .size = omega arith in λ s r. loop .inv .2 s r ∙ rw e
 
 pub put-table-spec : {M : Type 1} → statement M
 put-table-spec =

@@ -1,5 +1,7 @@
 -- Each arm of the match is the case of `stepped`; what a step asks of its numbers is that they are in range.
 use mathlib.Core.Path.{_∙_, ap, sym, subst}
+use Rattle.fixed.specs.Values.{limitStep}
+use Rattle.fixed.proofs.Signs.{came}
 use Rattle.runner.specs.Ranges.{InRange}
 use Rattle.runner.specs.Runs.{stepped}
 use borrow.Author.Needs.{needs}
@@ -28,7 +30,12 @@ enum-told : tie.Need-enum-told
 enum-told c = search needs
 
 returns : tie.Need-returns
-returns c = c .limit-step .ensures ∙ ap (stepped (c .before .before .before .before .args .l .now) (c .before .before .before .before .args .v)) (sym (c .before .before .s .given .1))
+returns c =
+    let a = c .before .before .before .before .args in
+    let s = c .before .before .s .given in
+    let told = c .before .known-told .given in
+    c .limit-step .ensures ∙ (λ i. limitStep (s .0 .0) (came (s .0 .1 .0) (told .1 .0 .1) i) (came (s .0 .1 .1 .0) (told .1 .1 .0 .1) i) (a .v)) ∙
+    ap (stepped (a .l .now) (a .v)) (sym (s .1))
 
 returns-2 : tie.Need-returns-2
 returns-2 c = c .row-step .ensures ∙ ap (stepped (c .before .before .before .before .args .l .now) (c .before .before .before .before .args .v)) (sym (c .before .before .s2 .given .1))

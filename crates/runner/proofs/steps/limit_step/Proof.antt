@@ -1,9 +1,9 @@
--- One value is stored, limited by the words.
+-- One value is stored, limited.
 use mathlib.Core.Path.{ap, _∙_}
 use lib.IntN.{ℤ}
 use lib.ListN.{set}
 use Rattle.fixed.specs.Values.{value, limitStep}
-use Rattle.fixed.proofs.Signs.{came, heard}
+use Rattle.fixed.proofs.Signs.{came, heard, back! }
 use borrow.Author.Needs.{needs}
 use Rattle.runner.proofs.steps.limit_step.Statement.{statement}
 use Rattle.runner.proofs.steps.limit_step.Tie as tie
@@ -13,12 +13,6 @@ mul-limit c = search needs
 
 array-copy-out-limit : tie.Need-array-copy-out-limit
 array-copy-out-limit c = search needs
-
-value-at-requires : tie.Need-value-at-requires
-value-at-requires c κs = search needs
-
-value-at-requires-2 : tie.Need-value-at-requires-2
-value-at-requires-2 c κs = search needs
 
 limit-requires : tie.Need-limit-requires
 limit-requires c κs = search needs
@@ -32,22 +26,11 @@ array-set-from-u c = search needs
 returns : tie.Need-returns
 unfolding limitStep
 returns c =
-    let v = c .before .before .before .before .args .v in
-    let k = c .before .before .before .before .args .k in
-    let x = came (value v k) (c .before .before .before .limit-arg .given) in
-    let lo = heard _ (c .before .before .value-at .ok) (c .before .before .value-at .ensures) in
-    let hi = heard _ (c .before .value-at2 .ok) (c .before .value-at2 .ensures) in
-    ap (λ (y : ℤ). set v k y) (heard _ (c .limit .ok) (c .limit .ensures ∙ simp (x, lo, hi)))
+    let v = c .before .before .args .v in
+    let k = c .before .before .args .k in
+    ap (λ (y : ℤ). set v k y) (heard _ (c .limit .ok) (c .limit .ensures ∙ simp (came (value v k) (c .before .limit-arg .given), back! (c .before .before .fits .lo), back! (c .before .before .fits .hi))))
 
 pub limit-step-spec : {M : Type 1} → statement M
 limit-step-spec =
     tie.close
-    (tie.spec
-    mul-limit
-    array-copy-out-limit
-    value-at-requires
-    value-at-requires-2
-    limit-requires
-    mul-u
-    array-set-from-u
-    returns)
+    (tie.spec mul-limit array-copy-out-limit limit-requires mul-u array-set-from-u returns)

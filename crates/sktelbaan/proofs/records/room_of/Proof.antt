@@ -19,7 +19,7 @@ put-run-requires c κs = search needs
 
 returns : tie.Need-returns
 returns c =
-    let s = now (c .before .before .before .args .s) in
+    let s = now (c .before .before .before .before .args .s) in
     let fs = run 504 s ∷ [] in
     let l : length (replicate {A = ℕ} 504 0) ≡ length (padded 504 s ++ []) = length-replicate {A = ℕ} 504 0 ∙ sym (length-padded 504 s) ∙ ap length (sym (append-nil (padded 504 s))) in
     c .before .put-run .ensures ∙ puts-whole fs (replicate 504 0) l ∙ append-nil (padded 504 s)

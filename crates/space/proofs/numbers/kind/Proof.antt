@@ -1,21 +1,21 @@
--- The kind: a block's first byte, or the number itself.
-use borrow.Author.Tests.{lt-ltb, le-ltb}
-use mathlib.Core.Path.{_∙_}
+-- `kind`: a block's, or the number itself.
+use mathlib.Core.Path.{refl}
+use Rattle.fixed.proofs.Decide.{lt-yes, lt-no}
 use Rattle.space.specs.Numbers.{kindAt}
 use borrow.Author.Needs.{needs}
 use Rattle.space.proofs.numbers.kind.Statement.{statement}
 use Rattle.space.proofs.numbers.kind.Tie as tie
 
-byte-requires : tie.Need-byte-requires
-byte-requires c κs = search needs
+kind-at-requires : tie.Need-kind-at-requires
+kind-at-requires c κs = search needs
 
 returns : tie.Need-returns
 unfolding kindAt
-returns c = c .byte .ensures .0 ∙ simp (lt-ltb _ _ (c .before .if1 .taken))
+returns c = lt-yes _ _ _ _ _ refl (c .before .if1 .taken) (c .kind-at .ensures)
 
 returns-2 : tie.Need-returns-2
 unfolding kindAt
-returns-2 c = simp (le-ltb _ _ (c .if1 .left))
+returns-2 c = lt-no _ _ _ _ _ refl (c .if1 .left) refl
 
 pub kind-spec : {M : Type 1} → statement M
-kind-spec = tie.close (tie.spec byte-requires returns returns-2)
+kind-spec = tie.close (tie.spec kind-at-requires returns returns-2)

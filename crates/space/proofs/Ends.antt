@@ -1,0 +1,70 @@
+-- The ends of the ranges of a plain space's components: a Lab's by its record, 0 to 1 for all others; and those that a table's entries have.
+use mathlib.Core.Path.{_≡_, refl, ap, sym, _∙_}
+use mathlib.Core.Bool.{true, false, true≢false}
+use mathlib.Core.List.{List, [], _∷_}
+use Prim.Native.Nat.{ℕ, _%_, _≤_, _<_}
+use native.Mathlib.Nat.{mod-lt}
+use native.Mathlib.Omega.{arith}
+use lib.IntN.{ℤ, pos}
+use Rattle.fixed.specs.Numbers.{paletteValue}
+use Rattle.fixed.specs.Values.{places, value, listed}
+use Rattle.fixed.proofs.Listed.{listed-value}
+use Rattle.cie.specs.declared.Closing.{Closing}
+use Rattle.cie.specs.declared.Closing.the-variants.{Nothing, Gray, Rgb, Cmyk, CalGray, CalRgb, Lab}
+use Rattle.record.specs.declared.types.Ranges.{Ranges}
+use Rattle.space.specs.Spaces.{Space, countOf, lowOf, highOf, wordsOf}
+use Rattle.space.specs.Numbers.{paletteByte}
+use Rattle.space.specs.Pages.{entryOf}
+use Rattle.space.specs.Levels.{plainIn, noRanges, isLab, Ranged}
+
+never : {A : Type 0} → false ≡ true → A
+never e = absurd (true≢false (sym e))
+
+module _ (q : Ranges) where
+  -- the count and the words are the same whatever the ranges
+  pub whatever : (c : Closing) → (countOf (plainIn c noRanges) ≡ countOf (plainIn c q)) × (wordsOf (plainIn c noRanges) ≡ wordsOf (plainIn c q))
+  whatever Nothing = (refl, refl)
+  whatever Gray = (refl, refl)
+  whatever Rgb = (refl, refl)
+  whatever Cmyk = (refl, refl)
+  whatever (CalGray k) = (refl, refl)
+  whatever (CalRgb k) = (refl, refl)
+  whatever (Lab k) = (refl, refl)
+
+  pub lab-ends : (c : Closing) → isLab c ≡ true
+      → ((pos 0 ∷ q .amin ∷ q .bmin ∷ q .bmin ∷ []) ≡ listed (lowOf (plainIn c q)) places) × ((pos 100000000 ∷ q .amax ∷ q .bmax ∷ q .bmax ∷ []) ≡ listed (highOf (plainIn c q)) places)
+  unfolding listed
+  lab-ends Nothing e = never e
+  lab-ends Gray e = never e
+  lab-ends Rgb e = never e
+  lab-ends Cmyk e = never e
+  lab-ends (CalGray k) e = never e
+  lab-ends (CalRgb k) e = never e
+  lab-ends (Lab k) e = (refl, refl)
+
+  pub unit-ends : (c : Closing) → isLab c ≡ false
+      → ((pos 0 ∷ pos 0 ∷ pos 0 ∷ pos 0 ∷ []) ≡ listed (lowOf (plainIn c q)) places) × ((pos 1000000 ∷ pos 1000000 ∷ pos 1000000 ∷ pos 1000000 ∷ []) ≡ listed (highOf (plainIn c q)) places)
+  unfolding listed
+  unit-ends Nothing e = (refl, refl)
+  unit-ends Gray e = (refl, refl)
+  unit-ends Rgb e = (refl, refl)
+  unit-ends Cmyk e = (refl, refl)
+  unit-ends (CalGray k) e = (refl, refl)
+  unit-ends (CalRgb k) e = (refl, refl)
+  unit-ends (Lab k) e = never (sym e)
+
+-- each end is that of its component
+module _ {s : Space} {m : ℕ} {lo hi : List ℤ} (r : Ranged s m lo hi) (k : ℕ) (l : k < places) where
+  pub low-at : value lo k ≡ lowOf s k
+  low-at = ap (λ (x : List ℤ). value x k) (r .low) ∙ listed-value (lowOf s) places k l
+
+  pub high-at : value hi k ≡ highOf s k
+  high-at = ap (λ (x : List ℤ). value x k) (r .high) ∙ listed-value (highOf s) places k l
+
+-- an entry in the code's own terms: b its palette byte, x and y the ends of its component's range
+pub entry-is : (page : List ℕ) (n j : ℕ) {s : Space} {m : ℕ} {lo hi : List ℤ} → Ranged s m lo hi → 0 < m → m ≤ places → (b : ℕ) (x y : ℤ) → b ≡ paletteByte page n j
+    → x ≡ value lo (j % m) → y ≡ value hi (j % m) → paletteValue b x y ≡ entryOf page n s j
+unfolding entryOf
+entry-is page n j {s} {m} r some few b x y eb ex ey =
+    let l : j % m < places = omega (arith, mod-lt j some) in
+    rw (eb, ex ∙ low-at r (j % m) l, ey ∙ high-at r (j % m) l, r .count)

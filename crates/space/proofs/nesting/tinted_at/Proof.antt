@@ -1,0 +1,43 @@
+-- `tinted_at`: what it takes of a level is the space that the definition has.
+use mathlib.Core.Path.{sym, ap, _∙_}
+use Rattle.space.proofs.Levels.{tinted, tinted-read}
+use borrow.Author.Needs.{needs}
+use Rattle.space.proofs.nesting.tinted_at.Statement.{statement}
+use Rattle.space.proofs.nesting.tinted_at.Tie as tie
+
+level-at-requires : tie.Need-level-at-requires
+level-at-requires c κs = search needs
+
+enum-told : tie.Need-enum-told
+enum-told c = search needs
+
+enum-told-2 : tie.Need-enum-told-2
+enum-told-2 c = search needs
+
+enum-told-3 : tie.Need-enum-told-3
+enum-told-3 c = search needs
+
+nothing-requires : tie.Need-nothing-requires
+nothing-requires c κs = search needs
+
+returns : tie.Need-returns
+returns c = let e = c .enum-told .given .1 in tinted-read _ _ (c .before .before .level-at .ensures) (e ∙ sym (ap tinted e))
+
+returns-2 : tie.Need-returns-2
+returns-2 c = let e = c .enum-told2 .given .1 in tinted-read _ _ (c .before .before .level-at .ensures) (e ∙ sym (ap tinted e))
+
+returns-3 : tie.Need-returns-3
+returns-3 c = tinted-read _ _ (c .before .before .before .level-at .ensures) (c .nothing .ensures ∙ sym (ap tinted (c .before .enum-told3 .given .1)))
+
+pub tinted-at-spec : {M : Type 1} → statement M
+tinted-at-spec =
+    tie.close
+    (tie.spec
+    level-at-requires
+    enum-told
+    enum-told-2
+    enum-told-3
+    nothing-requires
+    returns
+    returns-2
+    returns-3)

@@ -1,0 +1,36 @@
+-- `highs`: a plain space's by its closing step, 0 to 1 for the others.
+use mathlib.Core.Path.{refl}
+use Rattle.fixed.specs.Values.{listed}
+use Rattle.space.specs.Levels.{spaceIn}
+use borrow.Author.Needs.{needs}
+use Rattle.space.proofs.ranges.highs.Statement.{statement}
+use Rattle.space.proofs.ranges.highs.Tie as tie
+
+enum-known-l : tie.Need-enum-known-l
+enum-known-l c = search needs
+
+plain-highs-requires : tie.Need-plain-highs-requires
+plain-highs-requires c κs = search needs
+
+enum-told : tie.Need-enum-told
+enum-told c = search needs
+
+enum-told-2 : tie.Need-enum-told-2
+enum-told-2 c = search needs
+
+returns : tie.Need-returns
+unfolding spaceIn listed
+returns c = λ page. rw (c .before .before .l .given .1) (c .plain-highs .ensures)
+
+returns-2 : tie.Need-returns-2
+unfolding spaceIn listed
+returns-2 c = λ page. rw (c .enum-told .given .1)
+
+returns-3 : tie.Need-returns-3
+unfolding spaceIn listed
+returns-3 c = λ page. rw (c .enum-told2 .given .1)
+
+pub highs-spec : {M : Type 1} → statement M
+highs-spec =
+    tie.close
+    (tie.spec enum-known-l plain-highs-requires enum-told enum-told-2 returns returns-2 returns-3)

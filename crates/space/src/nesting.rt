@@ -1,0 +1,172 @@
+// A level of a space, read once: a plain space whole, and an Indexed or a Separation with the number of the space within.
+ghost use mathlib.Core.Path.{_≡_};
+ghost use mathlib.Core.List.{List};
+ghost use Prim.Native.Nat.{ℕ, _<_};
+ghost use Rattle.space.specs.Pages.{grayNumbers, rgbNumbers, labNumbers, plainAt, tintedAt};
+ghost use Rattle.space.specs.Levels.{spaceIn, rankIn, noRanges, nothing, levelOf, deviceClosing, levelAt};
+use cie::Closing;
+use cie::GrayClosing;
+use cie::LabClosing;
+use cie::RgbClosing;
+use fixed::BLOCKS;
+use record::Body;
+use record::CalGray;
+use record::CalRgb;
+use record::Lab;
+use record::Ranges;
+use record::Separation;
+use record::body_at;
+
+// What a number stands for, as far as the next space within.
+pub enum Level {
+    // A device space, CalGray, CalRGB or Lab: its closing step, and a Lab's ranges. A number that is no space's has the closing step of nothing.
+    Plain(Closing, Ranges),
+    // A Separation, with the number of its alternate.
+    Separation(Separation),
+    // The Indexed space of a block, with the number of its base.
+    Indexed { block: u16, base: u16, hival: u16 },
+}
+
+fn gray_numbers(g: CalGray) -> GrayClosing
+    ensures { λ r. ⌜ r ≡ grayNumbers g ⌝ }
+{
+    let white = g.white;
+    GrayClosing {
+        xw: white.x,
+        zw: white.z,
+        gamma: g.gamma,
+    }
+}
+
+// The matrix stays in the record's order.
+fn rgb_numbers(g: CalRgb) -> RgbClosing
+    ensures { λ r. ⌜ r ≡ rgbNumbers g ⌝ }
+{
+    let gammas = g.gammas;
+    let a = g.a;
+    let b = g.b;
+    let c = g.c;
+    RgbClosing {
+        ga: gammas.x,
+        gb: gammas.y,
+        gc: gammas.z,
+        xa: a.x,
+        ya: a.y,
+        za: a.z,
+        xb: b.x,
+        yb: b.y,
+        zb: b.z,
+        xc: c.x,
+        yc: c.y,
+        zc: c.z,
+    }
+}
+
+fn lab_numbers(g: Lab) -> LabClosing
+    ensures { λ r. ⌜ r ≡ labNumbers g ⌝ }
+{
+    let white = g.white;
+    LabClosing {
+        xw: white.x,
+        zw: white.z,
+    }
+}
+
+fn no_ranges() -> Ranges
+    ensures { λ r. ⌜ r ≡ noRanges ⌝ }
+{
+    Ranges {
+        amin: 0,
+        amax: 0,
+        bmin: 0,
+        bmax: 0,
+    }
+}
+
+fn nothing() -> Level
+    ensures { λ r. ⌜ r ≡ nothing ⌝ }
+{
+    Level::Plain(Closing::Nothing, no_ranges())
+}
+
+fn lab_level(g: Lab) -> Level
+    ensures { λ r. ⌜ r ≡ Level.Plain (Closing.Lab (labNumbers g)) (g .range) ⌝ }
+{
+    let range = g.range;
+    Level::Plain(Closing::Lab(lab_numbers(g)), range)
+}
+
+// The level of block n, whose body is given.
+fn level_of(n: u16, y: Body) -> Level
+    ensures { λ r. ⌜ r ≡ levelOf n y ⌝ }
+{
+    match y {
+        Body::Free => nothing(),
+        Body::CalGray(g) => Level::Plain(Closing::CalGray(gray_numbers(g)), no_ranges()),
+        Body::CalRgb(g) => Level::Plain(Closing::CalRgb(rgb_numbers(g)), no_ranges()),
+        Body::Lab(g) => lab_level(g),
+        Body::Indexed { base, hival } => Level::Indexed {
+            block: n,
+            base,
+            hival,
+        },
+        Body::Separation(p) => Level::Separation(p),
+        Body::Palette => nothing(),
+    }
+}
+
+// The closing step of a device space, by its code.
+fn device_closing(n: u32) -> Closing
+    ensures { λ r. ⌜ r ≡ deviceClosing n ⌝ }
+{
+    match n {
+        0xFF01 => Closing::Gray,
+        0xFF03 => Closing::Rgb,
+        0xFF04 => Closing::Cmyk,
+        _ => Closing::Nothing,
+    }
+}
+
+// The level at a number: a block's number, or a device code.
+pub fn level_at(page: &[u8], n: u32) -> Level
+    ensures { λ r. ⌜ r ≡ levelAt (now (page .entry)) n ⌝ }
+{
+    if n < BLOCKS {
+        return level_of(n as u16, body_at(page, n));
+    }
+    Level::Plain(device_closing(n), no_ranges())
+}
+
+// The level that an Indexed refers to: a Separation, or plain.
+pub fn tinted_at(page: &[u8], n: u16) -> Level
+    ensures is { λ r. ⌜ spaceIn (now (page .entry)) r ≡ tintedAt (now (page .entry)) n ⌝ }
+    ensures falls { λ r. ⌜ rankIn r < 2 ⌝ }
+{
+    let l = level_at(page, n as u32);
+    match l {
+        Level::Plain(_, _) => l,
+        Level::Separation(_) => l,
+        Level::Indexed {
+            block: _,
+            base: _,
+            hival: _,
+        } => nothing(),
+    }
+}
+
+// The level that a Separation refers to, which is plain.
+pub fn plain_at(page: &[u8], n: u16) -> Level
+    ensures is { λ r. ⌜ spaceIn (now (page .entry)) r ≡ plainAt (now (page .entry)) n ⌝ }
+    ensures falls { λ r. ⌜ rankIn r < 1 ⌝ }
+{
+    let l = level_at(page, n as u32);
+    match l {
+        Level::Plain(_, _) => l,
+        Level::Separation(_) => nothing(),
+        Level::Indexed {
+            block: _,
+            base: _,
+            hival: _,
+        } => nothing(),
+    }
+}
