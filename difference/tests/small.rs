@@ -46,6 +46,19 @@ fn word_lists_are_run_alike() {
     assert!(tally.refused[9] > 0 && tally.refused[11] > PAGES / 10);
 }
 
+/// Every component that a gamma in tenths tells apart, under every such gamma: 36 gammas and 10,001 numbers u.
+#[test]
+fn every_gamma_in_tenths_is_decoded_alike() {
+    for p in (1..=40).filter(|p| p % 10 != 0) {
+        let words = [1, 7, 1_000_000, 1_000_000, 100_000 * p];
+        for u in 0..=10_000 {
+            let colour = [100 * u];
+            let expected = (REFERENCE.run)(&words, &colour);
+            assert_eq!((PROVED.run)(&words, &colour), expected, "{p} tenths, u {u}");
+        }
+    }
+}
+
 #[test]
 fn records_and_blocks_are_written_and_read_alike() {
     let tally = compare::write_block(&PROVED, &mut Rng::new(6), 4 * PAGES).unwrap();

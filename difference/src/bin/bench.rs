@@ -231,6 +231,38 @@ fn evaluations(full: &[u8]) {
     }
 }
 
+/// Palettes of 256 rows, over a base whose ranges are 0..1 and over one with others: writing the recipe, and
+/// evaluating on the page.
+fn palettes() {
+    println!("| Indexed, hival 255 | `write_recipe`, ns | the plain reference | `evaluate`, ns per colour | the fast rival |");
+    println!("|---|---|---|---|---|");
+    let bytes: Vec<u8> = (0..768).map(|place| (place * 73 % 256) as u8).collect();
+    let over_rgb = page(&indexed_run(0, DEVICE_RGB, 255, &bytes));
+    let mut records = indexed_run(0, 3, 255, &bytes);
+    records.push(lab(3, USUAL));
+    let over_lab = page(&records);
+    for (name, page) in [("over RGB", over_rgb), ("over Lab", over_lab)] {
+        let mut words = [0; sktelbaan::LONGEST];
+        assert!(sktelbaan::write_recipe(&page, 0, &mut words).is_ok());
+        let write = least(|| {
+            let reply = sktelbaan::write_recipe(black_box(&page), 0, black_box(&mut words));
+            black_box(&reply.is_ok());
+        });
+        let plain = least(|| {
+            let reply = reference::recipe::write(black_box(&page), 0, black_box(&mut words));
+            black_box(&reply.is_ok());
+        });
+        let colours = Colours::new(&[(0, 255 * ONE)], 256);
+        let ours = per_colour(&colours, |colour| {
+            sktelbaan::evaluate(black_box(&page), 0, colour)
+        });
+        let rival = per_colour(&colours, |colour| {
+            fast::evaluate(black_box(&page), 0, colour)
+        });
+        println!("| {name} | {write:.0} | {plain:.0} | {ours:.0} | {rival:.0} |");
+    }
+}
+
 #[cfg(lcms2)]
 mod lcms {
     //! LittleCMS beside the library: the same colours, in doubles.
@@ -311,6 +343,8 @@ fn main() {
     runs();
     println!();
     evaluations(&full);
+    println!();
+    palettes();
     println!();
     #[cfg(lcms2)]
     lcms::rows();
