@@ -12,25 +12,25 @@ use Rattle.fixed.specs.Values.{places, given}
 use Rattle.cie.specs.Closings.{closed}
 use Rattle.page.specs.Outcomes.{accepted}
 use Rattle.page.specs.Validation.{validated}
-use Rattle.page.proofs.Wholes.{whole-at}
+use Rattle.page.proofs.WellMade.{well-made-at}
 use Rattle.space.specs.Numbers.{asked}
 use Rattle.space.specs.Spaces.{Space, none, gray, rgb, cmyk, calGray, calRgb, lab, separation, indexed, countOf}
 use Rattle.space.specs.Pages.{spaceAt}
-use Rattle.space.specs.Wholes.{Whole}
+use Rattle.space.specs.WellMade.{WellMade}
 use Rattle.space.proofs.Asked.{asked-space}
 use Rattle.colour.specs.Colours.{valued, answered}
 use Rattle.colour.proofs.Replies.{answered-8, answered-9, answered-as, page-accepted}
 use Rattle.recipe.specs.Recipes.{recipeOf}
-use Rattle.recipe.specs.Writes.{wrote, refusal as unwritten, replied, left}
-use Rattle.recipe.specs.Writing.{writeReply, writeLeft}
+use Rattle.recipe.specs.SpaceWrites.{wrote, refusal as unwritten, replied, wordsAfter}
+use Rattle.recipe.specs.PageWrites.{writeReply, writeWords}
 use Rattle.recipe.proofs.Longest.{recipe-short}
 use Rattle.recipe.proofs.Replies.{reply-none, reply-short, page-accepted as write-accepted}
 use Rattle.agreement.specs.Demand.{IsAnswer, Serves, MeetsEight, RecipeServes}
 use Rattle.agreement.proofs.Spaces.{recipe-replies}
 
 -- the values of a space that is well made have an answer
-answers : (s : Space) → Whole s → (v : List ℤ) → IsAnswer (valued s v)
-unfolding Whole valued closed
+answers : (s : Space) → WellMade s → (v : List ℤ) → IsAnswer (valued s v)
+unfolding WellMade valued closed
 answers none w v = absurd w
 answers gray w v = tt
 answers rgb w v = tt
@@ -56,22 +56,22 @@ module _ (page : List ℕ) (number : ℕ) (ok : validated page ≡ accepted) whe
   none-asked e = omega (arith, ltb-false 0 (countOf space) (counts ∙ e))
 
   module _ (some : 1 ≤ countOf space) where
-    whole : Whole space
-    whole = whole-at page number ok some
+    whole : WellMade space
+    whole = well-made-at page number ok some
 
     not-none : countOf space ≡ 0 → ⊥
     not-none z = omega arith
 
     -- writing
     fits : (words : List ℤ) → length (recipeOf space) ≤ length words
-        → (writeReply page number words ≡ wrote (length (recipeOf space))) × (writeLeft page number words ≡ recipeOf space ++ drop (length (recipeOf space)) words)
-    unfolding writeReply writeLeft replied left
+        → (writeReply page number words ≡ wrote (length (recipeOf space))) × (writeWords page number words ≡ recipeOf space ++ drop (length (recipeOf space)) words)
+    unfolding writeReply writeWords replied wordsAfter
     fits words room =
         let z = ne-eqb (countOf space) 0 not-none in
         let k = le-leb (length (recipeOf space)) (length words) room in
         (simp (ok, z, k), simp (ok, z, k))
 
-    short : (words : List ℤ) → length words < length (recipeOf space) → (unwritten 10 0 ≡ writeReply page number words) × (words ≡ writeLeft page number words)
+    short : (words : List ℤ) → length words < length (recipeOf space) → (unwritten 10 0 ≡ writeReply page number words) × (words ≡ writeWords page number words)
     short words less =
         write-accepted page number words _ _ (sym ok) (reply-short space words (countOf space) refl not-none (length (recipeOf space)) refl less)
 
@@ -102,7 +102,7 @@ module _ (page : List ℕ) (number : ℕ) (ok : validated page ≡ accepted) whe
         unaltered = λ words. sym (writes words .1);
       }
     where
-      writes : (words : List ℤ) → (unwritten 8 0 ≡ writeReply page number words) × (words ≡ writeLeft page number words)
+      writes : (words : List ℤ) → (unwritten 8 0 ≡ writeReply page number words) × (words ≡ writeWords page number words)
       writes words = write-accepted page number words _ _ (sym ok) (reply-none space words (countOf space) refl z)
 
 pub recipe-serves : RecipeServes

@@ -15,7 +15,7 @@ use Rattle.cie.specs.Closings.{closed}
 use Rattle.runner.specs.Runs.{runs, ran}
 use Rattle.runner.proofs.Runs.{count-run, limit-run, tint-run, row-run, device-gray-run, device-rgb-run, device-cmyk-run, gray-run, rgb-run, lab-run}
 use Rattle.space.specs.Spaces.{Space, none, gray, rgb, cmyk, calGray, calRgb, lab, separation, indexed, countOf, lowOf, highOf, pick3, closingOf}
-use Rattle.space.specs.Wholes.{Whole}
+use Rattle.space.specs.WellMade.{WellMade}
 use Rattle.space.proofs.Counts.{count-high}
 use Rattle.recipe.specs.Recipes.{limitWords, limitsOf, closingWords, endsOf, stepsOf, recipeOf}
 use Rattle.recipe.proofs.Longest.{recipe-short}
@@ -53,8 +53,8 @@ lab-range al ah bl bh p q (suc (suc k)) =
 
 -- ---- a space that is well made has components
 
-count-low : (s : Space) → Whole s → 1 ≤ countOf s
-unfolding Whole
+count-low : (s : Space) → WellMade s → 1 ≤ countOf s
+unfolding WellMade
 count-low none w = absurd w
 count-low gray w = omega arith
 count-low rgb w = omega arith
@@ -67,8 +67,8 @@ count-low (indexed h t s) w = omega arith
 
 -- ---- the steps of a space, from any values on
 
-steps-run : (s : Space) → Whole s → (n c : ℕ) (v : List ℤ) → runs n c (stepsOf s) v ≡ cond (eqb c n) (valued s v) (refusal 9 0)
-unfolding Whole stepsOf valued
+steps-run : (s : Space) → WellMade s → (n c : ℕ) (v : List ℤ) → runs n c (stepsOf s) v ≡ cond (eqb c n) (valued s v) (refusal 9 0)
+unfolding WellMade stepsOf valued
 steps-run none w n c v = absurd w
 steps-run gray w n c v = ends-run n c gray unit-range (device-gray-run n c) v
 steps-run rgb w n c v = ends-run n c rgb unit-range (device-rgb-run n c) v
@@ -85,7 +85,7 @@ steps-run (indexed h t s) w n c v =
 
 -- ---- the recipe of a space, fixed before any colour, replies to every list of components what the space replies
 
-pub recipe-replies : (s : Space) → Whole s → (cs : List ℤ) → ran (recipeOf s) cs ≡ answered s cs
+pub recipe-replies : (s : Space) → WellMade s → (cs : List ℤ) → ran (recipeOf s) cs ≡ answered s cs
 unfolding recipeOf answered
 recipe-replies s w cs =
     let z : countOf s ≡ 0 → ⊥ = omega (arith, count-low s w) in

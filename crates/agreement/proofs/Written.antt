@@ -13,8 +13,8 @@ use Rattle.page.specs.Outcomes.{Outcome, accepted, refused}
 use Rattle.page.specs.Validation.{validated}
 use Rattle.space.specs.Numbers.{asked}
 use Rattle.colour.specs.Evaluating.{evaluated}
-use Rattle.recipe.specs.Writes.{wrote, refusal as unwritten}
-use Rattle.recipe.specs.Writing.{writeReply, writeLeft}
+use Rattle.recipe.specs.SpaceWrites.{wrote, refusal as unwritten}
+use Rattle.recipe.specs.PageWrites.{writeReply, writeWords}
 use Rattle.recipe.proofs.Replies.{page-refused}
 use Rattle.runner.specs.Runs.{ran}
 use Rattle.agreement.specs.Demand.{Serves}
@@ -47,17 +47,17 @@ module _ (page : List ℕ) (number : ℕ) (words : List ℤ) (n : ℕ) (e : wrot
   got : Got page number words n
   got = by-outcome (validated page) refl
 
-  left : writeLeft page number words ≡ got .recipe ++ drop (length (got .recipe)) words
+  left : writeWords page number words ≡ got .recipe ++ drop (length (got .recipe)) words
   left = got .serves .left words (got .room)
 
   -- the words are that many
-  pub wrote-room : n ≤ length (writeLeft page number words)
+  pub wrote-room : n ≤ length (writeWords page number words)
   wrote-room = omega (arith, got .is, ap length left ∙ length-append (got .recipe) (drop (length (got .recipe)) words))
 
   -- running the first n of them replies what the page replies
-  pub wrote-replies : (components : List ℤ) → ran (take n (writeLeft page number words)) components ≡ evaluated page number components
+  pub wrote-replies : (components : List ℤ) → ran (take n (writeWords page number words)) components ≡ evaluated page number components
   wrote-replies components =
       let recipe = got .recipe in
-      let first : take n (writeLeft page number words) ≡ recipe =
-      ap (λ (j : ℕ). take j (writeLeft page number words)) (got .is) ∙ (ap (take (length recipe)) left ∙ take-append-seam recipe (drop (length recipe) words)) in
+      let first : take n (writeWords page number words) ≡ recipe =
+      ap (λ (j : ℕ). take j (writeWords page number words)) (got .is) ∙ (ap (take (length recipe)) left ∙ take-append-seam recipe (drop (length recipe) words)) in
       ap (λ (l : List ℤ). ran l components) first ∙ got .serves .replies components

@@ -12,8 +12,8 @@ use Rattle.space.specs.Pages.{spaceAt}
 use Rattle.page.specs.Outcomes.{accepted}
 use Rattle.page.specs.Validation.{validated}
 use Rattle.colour.specs.Evaluating.{evaluated}
-use Rattle.recipe.specs.Writes.{wrote, refusal as unwritten}
-use Rattle.recipe.specs.Writing.{writeReply, writeLeft}
+use Rattle.recipe.specs.SpaceWrites.{wrote, refusal as unwritten}
+use Rattle.recipe.specs.PageWrites.{writeReply, writeWords}
 use Rattle.runner.specs.Runs.{longest, ran}
 
 -- a reply that is an answer, with its floats, and no refusal
@@ -27,10 +27,10 @@ pub record Serves (page : List ℕ) (number : ℕ) (recipe : List ℤ) : Type 0 
   pub short : length recipe ≤ longest
   -- "Lent n words or more, writing replies n and the first n of them are the recipe"; those after them are as they were
   pub written : (words : List ℤ) → length recipe ≤ length words → writeReply page number words ≡ wrote (length recipe)
-  pub left : (words : List ℤ) → length recipe ≤ length words → writeLeft page number words ≡ recipe ++ drop (length recipe) words
+  pub left : (words : List ℤ) → length recipe ≤ length words → writeWords page number words ≡ recipe ++ drop (length recipe) words
   -- "lent fewer, it replies 10", and none of them is altered
   pub refused : (words : List ℤ) → length words < length recipe → writeReply page number words ≡ unwritten 10 0
-  pub unaltered : (words : List ℤ) → length words < length recipe → writeLeft page number words ≡ words
+  pub unaltered : (words : List ℤ) → length words < length recipe → writeWords page number words ≡ words
   -- "Running is then lent just those n words, unaltered, and a colour: no page and no other storage. For every list of components, of whatever length, its
   -- reply equals the reply to the same list and number on the page as it stood when the recipe was written"
   pub replies : (components : List ℤ) → ran recipe components ≡ evaluated page number components
@@ -43,7 +43,7 @@ pub record Serves (page : List ℕ) (number : ℕ) (recipe : List ℤ) : Type 0 
 pub record MeetsEight (page : List ℕ) (number : ℕ) : Type 0 where
   pub colour : (components : List ℤ) → evaluated page number components ≡ refusal 8 0
   pub recipe : (words : List ℤ) → writeReply page number words ≡ unwritten 8 0
-  pub unaltered : (words : List ℤ) → writeLeft page number words ≡ words
+  pub unaltered : (words : List ℤ) → writeWords page number words ≡ words
 
 -- the third of the three demands (FORMAT.md)
 pub record RecipeServes : Type 0 where

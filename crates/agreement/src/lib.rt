@@ -2,7 +2,7 @@
 mod compare;
 
 use cie::Answer;
-pub use compare::both;
+pub use compare::compare_replies;
 use recipe::Written;
 
 // What writing a recipe, running it and evaluating on the page reply.

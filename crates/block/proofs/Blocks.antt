@@ -17,7 +17,7 @@ use Rattle.layout.proofs.Puts.{next, puts-written, puts-whole}
 use Rattle.record.specs.Layout.{body, rest, kindOf, fields, plain, check, headOf, blockOf, checked}
 use Rattle.record.specs.Reading.{kindAt, bodyBy, bytesBy, recordAt}
 use Rattle.fixed.specs.Bytes.{blocks}
-use Rattle.record.specs.Rules.{known, named, shaped}
+use Rattle.record.specs.Rules.{wellLaid, wellNamed, wellShaped}
 use Rattle.record.specs.Fits.{Fits}
 use Rattle.record.specs.declared.types.Record.{Record}
 use Rattle.block.proofs.Check.{plain-same, weighed-same, plain-small, weighed-small}
@@ -29,14 +29,14 @@ head-length r = omega (arith, written-length (fields r), sizes-of (r .body) (r .
 
 -- ---- from a block
 
-module _ (b : List ℕ) (bytes : Bytes b) (k : known b ≡ true) where
+module _ (b : List ℕ) (bytes : Bytes b) (k : wellLaid b ≡ true) where
   kind : kindAt b ≤ 6
-  unfolding known
+  unfolding wellLaid
   kind = leb-true _ 6 (and-left _ _ k)
 
   -- each field of the record read is what stands at its place
   got : AllGot b 0 (fields (recordAt b))
-  unfolding known recordAt
+  unfolding wellLaid recordAt
   got =
       let rest = and-right (leb (kindAt b) 6) _ k in
       got-by b (kindAt b) kind refl (eqb-true _ 0 (and-left _ _ rest)) (and-right (eqb (byteAt b 1) 0) _ rest)
@@ -70,11 +70,11 @@ module _ (b : List ℕ) (bytes : Bytes b) (k : known b ≡ true) where
 pub record Read (b : List ℕ) (r : Record) : Type 0 where
   pub long : length b ≡ 512
   pub checks : checked b ≡ true
-  pub knows : known b ≡ true
+  pub knows : wellLaid b ≡ true
   pub gives : recordAt b ≡ r
 
-pub read-at : (r : Record) → Fits r → shaped r ≡ true → Read (blockOf r) r
-unfolding shaped checked known recordAt blockOf headOf
+pub read-at : (r : Record) → Fits r → wellShaped r ≡ true → Read (blockOf r) r
+unfolding wellShaped checked wellLaid recordAt blockOf headOf
 read-at r fits s =
     let h = written (fields r) in
     let t = written (check h) in
@@ -86,7 +86,7 @@ read-at r fits s =
     let got : AllGot (h ++ t) 0 (fields r) = all-heard (h ++ t) 0 (fields r) (fits .numbers) left in
     let sums : AllGot (h ++ t) 508 (check h) =
     all-heard (h ++ t) 508 (check h) (plain-small h, (weighed-small h, tt)) (held-right h t 508 (omega arith) self) in
-    let zeros = and-right (named (r .body) (r .bytes)) _ (and-right (ltb (r .own) blocks) _ s) in
+    let zeros = and-right (wellNamed (r .body) (r .bytes)) _ (and-right (ltb (r .own) blocks) _ s) in
     let y = r .body in
     let k : getD (h ++ t) 0 0 ≡ kindOf y = got .0 in
     let back : bodyBy (kindOf y) (h ++ t) ≡ y = body-back (h ++ t) (r .bytes) y (got .1 .1 .1) in

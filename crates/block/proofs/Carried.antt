@@ -10,7 +10,7 @@ use Rattle.record.specs.Reading.{recordAt}
 use Rattle.record.specs.Rules.{faultOf}
 use Rattle.record.specs.Fits.{Fits}
 use Rattle.record.specs.declared.types.Record.{Record}
-use Rattle.block.specs.Whole.{Outcome, done, refused, outcomeOf, writeNumber, writeOut, nothing, foundOf, readNumber, readFound, copyNumber, copyOut}
+use Rattle.block.specs.Single.{Outcome, done, refused, outcomeOf, writeNumber, writeOut, nothing, foundOf, readNumber, readFound, copyNumber, copyOut}
 use Rattle.block.proofs.Exits.{refused-outcome, done-zero, refused-number, found-done, found-refused, number-fault}
 use Rattle.block.proofs.RoundTrips.{accepted, read-written, write-of-read}
 

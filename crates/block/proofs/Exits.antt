@@ -8,9 +8,9 @@ use borrow.Author.Tests.{eq-eqb, ne-eqb}
 use lib.ListN.{length}
 use Rattle.record.specs.Layout.{blockOf, checked}
 use Rattle.record.specs.Reading.{recordAt}
-use Rattle.record.specs.Rules.{known, faultOf, faultAt}
+use Rattle.record.specs.Rules.{wellLaid, faultOf, faultAt}
 use Rattle.record.specs.declared.types.Record.{Record}
-use Rattle.block.specs.Whole.{Outcome, done, refused, outcomeOf, writeNumber, writeOut, nothing, foundOf, readNumber, readFound}
+use Rattle.block.specs.Single.{Outcome, done, refused, outcomeOf, writeNumber, writeOut, nothing, foundOf, readNumber, readFound}
 
 -- a refusal's number is no 0
 pub refused-outcome : (n : ℕ) → (n ≡ 0 → ⊥) → refused n ≡ outcomeOf n
@@ -65,11 +65,11 @@ module _ (b : List ℕ) where
   unfolding readNumber
   read-unchecked l c = rw (eq-eqb _ _ l, c)
 
-  pub read-unknown : length b ≡ 512 → checked b ≡ true → known b ≡ false → readNumber b ≡ 3
+  pub read-unknown : length b ≡ 512 → checked b ≡ true → wellLaid b ≡ false → readNumber b ≡ 3
   unfolding readNumber faultAt
   read-unknown l c k = rw (eq-eqb _ _ l, c, k)
 
-  pub read-fault : length b ≡ 512 → checked b ≡ true → known b ≡ true → readNumber b ≡ faultOf (recordAt b)
+  pub read-fault : length b ≡ 512 → checked b ≡ true → wellLaid b ≡ true → readNumber b ≡ faultOf (recordAt b)
   unfolding readNumber faultAt
   read-fault l c k = rw (eq-eqb _ _ l, c, k)
 

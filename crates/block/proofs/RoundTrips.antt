@@ -10,10 +10,10 @@ use lib.Dec.{eqb}
 use Rattle.layout.specs.Field.{Bytes}
 use Rattle.record.specs.Layout.{blockOf, checked}
 use Rattle.record.specs.Reading.{recordAt}
-use Rattle.record.specs.Rules.{known, shaped, faultOf, faultAt}
+use Rattle.record.specs.Rules.{wellLaid, wellShaped, faultOf, faultAt}
 use Rattle.record.specs.Fits.{Fits}
 use Rattle.record.specs.declared.types.Record.{Record}
-use Rattle.block.specs.Whole.{writeOut, readNumber, Block}
+use Rattle.block.specs.Single.{writeOut, readNumber, Block}
 use Rattle.block.proofs.Blocks.{Read, fits-at, block-at, read-at}
 use Rattle.block.proofs.Exits.{number-fault, write-done, read-fault}
 
@@ -22,25 +22,25 @@ was : {A : Type 0} (t : Bool) (a b r : A) → cond t a b ≡ r → (b ≡ r → 
 was true a b r e h = refl
 was false a b r e h = absurd (h e)
 
-fault-shaped : (r : Record) → faultOf r ≡ 0 → shaped r ≡ true
+fault-shaped : (r : Record) → faultOf r ≡ 0 → wellShaped r ≡ true
 unfolding faultOf
-fault-shaped r e = was (shaped r) _ 3 0 e (λ h. omega arith)
+fault-shaped r e = was (wellShaped r) _ 3 0 e (λ h. omega arith)
 
 -- what reading found, where it refused nothing
 pub record Accepted (b : List ℕ) : Type 0 where
   pub long : length b ≡ 512
   pub checks : checked b ≡ true
-  pub knows : known b ≡ true
+  pub knows : wellLaid b ≡ true
   pub faultless : faultOf (recordAt b) ≡ 0
 
 pub accepted : (b : List ℕ) → readNumber b ≡ 0 → Accepted b
 unfolding readNumber faultAt
 accepted b e =
     let l : eqb (length b) 512 ≡ true = was _ _ 10 0 e (λ h. omega arith) in
-    let e₁ : cond (checked b) (cond (known b) (faultOf (recordAt b)) 3) 2 ≡ 0 = rw l at e in
+    let e₁ : cond (checked b) (cond (wellLaid b) (faultOf (recordAt b)) 3) 2 ≡ 0 = rw l at e in
     let c : checked b ≡ true = was _ _ 2 0 e₁ (λ h. omega arith) in
-    let e₂ : cond (known b) (faultOf (recordAt b)) 3 ≡ 0 = rw c at e₁ in
-    let k : known b ≡ true = was _ _ 3 0 e₂ (λ h. omega arith) in
+    let e₂ : cond (wellLaid b) (faultOf (recordAt b)) 3 ≡ 0 = rw c at e₁ in
+    let k : wellLaid b ≡ true = was _ _ 3 0 e₂ (λ h. omega arith) in
     record { long = eqb-true _ _ l; checks = c; knows = k; faultless = rw k at e₂ }
 
 -- A record that is accepted is read back, of the block that it is written as, as the same record.

@@ -1,13 +1,13 @@
 // Reading a block by itself.
 ghost use mathlib.Core.Path.{_≡_};
-ghost use Rattle.block.specs.Whole.{meaning, refused, outcomeOf, nothing, readNumber, readFound};
+ghost use Rattle.block.specs.Single.{meaning, refused, outcomeOf, nothing, readNumber, readFound};
 use crate::types::ReadReply;
 use crate::types::Reply;
 use record::Body;
 use record::Record;
 use record::fault;
 use record::is_checked;
-use record::is_known;
+use record::is_well_laid;
 use record::record_at;
 
 // The refusal n, with no record.
@@ -37,7 +37,7 @@ pub fn read(b: &[u8]) -> ReadReply
     if !is_checked(b, 0) {
         return refusal(2);
     }
-    if !is_known(b, 0) {
+    if !is_well_laid(b, 0) {
         return refusal(3);
     }
     let r = record_at(b, 0);

@@ -1,7 +1,7 @@
 // The two round trips: a record that is written is read back as it was, and a block that is read is written as it stood.
 ghost use mathlib.Core.Path.{_≡_};
 ghost use Rattle.record.specs.Rules.{faultOf};
-ghost use Rattle.block.specs.Whole.{meaning, outcomeOf, foundOf, copyNumber, copyOut};
+ghost use Rattle.block.specs.Single.{meaning, outcomeOf, foundOf, copyNumber, copyOut};
 use crate::reading::read;
 use crate::reading::refusal;
 use crate::types::ReadReply;

@@ -4,7 +4,7 @@ ghost use mathlib.Core.List.{[], _∷_};
 ghost use lib.ListN.{length};
 ghost use Rattle.layout.specs.Field.{one, two, puts};
 ghost use Rattle.record.specs.Layout.{kindOf, check};
-ghost use Rattle.block.specs.Whole.{meaning, outcomeOf, writeNumber, writeOut};
+ghost use Rattle.block.specs.Single.{meaning, outcomeOf, writeNumber, writeOut};
 use crate::fields::put_body;
 use crate::types::Reply;
 use layout::put_one;

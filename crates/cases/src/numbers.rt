@@ -1,14 +1,14 @@
 // Cases of the crate `fixed`.
 use fixed::float_of;
 use fixed::limit;
-use fixed::number;
+use fixed::number_at;
 use fixed::of_signed;
 use fixed::palette_value;
 use fixed::put_number;
 use fixed::round_index;
 use fixed::tint_power;
 use fixed::tint_value;
-use fixed::two;
+use fixed::two_at;
 use text::say;
 use text::say_bytes;
 use text::say_float;
@@ -48,8 +48,8 @@ pub fn number_case(op: u32, v: [i32; 24], bytes: &[u8]) {
         4 => power_case(of_signed(v[1]), of_signed(v[2])),
         5 => tint_case(v[1], v[2], of_signed(v[3])),
         6 => say_float(float_of(v[1])),
-        7 => say_size(two(bytes, 0, 0)),
-        8 => say_number(number(bytes, 0, 0)),
+        7 => say_size(two_at(bytes, 0, 0)),
+        8 => say_number(number_at(bytes, 0, 0)),
         9 => bytes_case(v[1]),
         _ => say(b"no such case"),
     }

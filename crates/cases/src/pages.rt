@@ -1,6 +1,6 @@
 // Cases of pages, colours, recipes and running them.
 use colour::evaluate;
-use fixed::number;
+use fixed::number_at;
 use fixed::of_signed;
 use lines::LONGEST;
 use lines::list;
@@ -111,7 +111,7 @@ fn words_of(s: &[u8], out: &mut [i32]) {
         if 1200 <= i {
             return;
         }
-        let x = number(s, (i / 128) as u32, (4 * (i % 128)) as u32);
+        let x = number_at(s, (i / 128) as u32, (4 * (i % 128)) as u32);
         out[i] = x;
         i += 1;
     }

@@ -19,7 +19,7 @@ use Rattle.cie.specs.declared.LabClosing.{LabClosing}
 use Rattle.fixed.specs.Numbers.{float, million, limited}
 use Rattle.fixed.proofs.Decide.{cond-ind}
 use Rattle.cie.specs.Tenths.{decodedTenths}
-use Rattle.cie.specs.Steps.{whole, one, tenthsOf, decodedWhole, decoded, whiteOf, grayOf, labP, labN, first, second, third, share, cubed}
+use Rattle.cie.specs.Steps.{whole, one, tenthsOf, decodedWhole, decoded, whiteOf, grayXyz, labP, labN, first, second, third, share, cubed}
 use Rattle.cie.specs.Closings.{calGrayOf, calLabOf}
 use Rattle.cie.proofs.One.{unit, mul-1}
 use Rattle.cie.proofs.Settled.{settled-white, settled-black}
@@ -67,7 +67,7 @@ decoded-one p =
     (λ _. tenths-one p)
 
 pub gray-white : (k : GrayClosing) → calGrayOf k (pos 1000000) ≡ whiteOf (k .xw) (k .zw)
-gray-white k = ap (grayOf (whiteOf (k .xw) (k .zw))) (decoded-one (tenthsOf (k .gamma))) ∙ (λ i. record { x = by-one (k .xw) i; y = one; z = by-one (k .zw) i })
+gray-white k = ap (grayXyz (whiteOf (k .xw) (k .zw))) (decoded-one (tenthsOf (k .gamma))) ∙ (λ i. record { x = by-one (k .xw) i; y = one; z = by-one (k .zw) i })
 
 -- ---- Lab (100, 0, 0) is the white point
 
@@ -183,7 +183,7 @@ unfolding limited
 limited-minus-three = refl
 
 pub gray-black : (k : GrayClosing) → Above (k .xw) → Above (k .zw) → calGrayOf k (limited (pos 0) (pos 1000000) (negsuc 2999999)) ≡ record { x = nought; y = nought; z = nought }
-gray-black k a b = ap (grayOf (whiteOf (k .xw) (k .zw))) none ∙ (λ i. record { x = by-nought a i; y = nought; z = by-nought b i })
+gray-black k a b = ap (grayXyz (whiteOf (k .xw) (k .zw))) none ∙ (λ i. record { x = by-nought a i; y = nought; z = by-nought b i })
   where
     none : decoded (tenthsOf (k .gamma)) (limited (pos 0) (pos 1000000) (negsuc 2999999)) ≡ nought
     none = ap (decoded (tenthsOf (k .gamma))) limited-minus-three ∙ decoded-nought (tenthsOf (k .gamma))

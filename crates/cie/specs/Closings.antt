@@ -11,22 +11,22 @@ use Rattle.cie.specs.declared.LabClosing.{LabClosing}
 use Rattle.cie.specs.declared.Closing.{Closing}
 use Rattle.cie.specs.declared.Closing.the-variants.{Nothing, Gray, Rgb, Cmyk, CalGray, CalRgb, Lab}
 use Rattle.cie.specs.Answers.{Reply, answer, refusal, inGray, inRgb, inCmyk, inXyz}
-use Rattle.cie.specs.Steps.{tenthsOf, decoded, whiteOf, grayOf, matrixOf, rgbOf, labOf}
+use Rattle.cie.specs.Steps.{tenthsOf, decoded, whiteOf, grayXyz, matrixOf, rgbXyz, labXyz}
 
 -- CalGray, of a component in millionths
 abbrev pub calGrayOf : GrayClosing → ℤ → Xyz
-calGrayOf k a = grayOf (whiteOf (k .xw) (k .zw)) (decoded (tenthsOf (k .gamma)) a)
+calGrayOf k a = grayXyz (whiteOf (k .xw) (k .zw)) (decoded (tenthsOf (k .gamma)) a)
 
 -- CalRGB, each component decoded by its own gamma
 abbrev pub calRgbOf : RgbClosing → ℤ → ℤ → ℤ → Xyz
 calRgbOf k a b c =
-    rgbOf (matrixOf (k .xa) (k .ya) (k .za) (k .xb) (k .yb) (k .zb) (k .xc) (k .yc) (k .zc))
+    rgbXyz (matrixOf (k .xa) (k .ya) (k .za) (k .xb) (k .yb) (k .zb) (k .xc) (k .yc) (k .zc))
     (decoded (tenthsOf (k .ga)) a)
     (decoded (tenthsOf (k .gb)) b)
     (decoded (tenthsOf (k .gc)) c)
 
 abbrev pub calLabOf : LabClosing → ℤ → ℤ → ℤ → Xyz
-calLabOf k l a b = labOf (whiteOf (k .xw) (k .zw)) l a b
+calLabOf k l a b = labXyz (whiteOf (k .xw) (k .zw)) l a b
 
 -- the floats of an X, Y and Z
 abbrev pub inThree : Xyz → Reply

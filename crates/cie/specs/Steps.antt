@@ -43,8 +43,8 @@ abbrev pub whiteOf : ℤ → ℤ → Xyz
 whiteOf xw zw = record { x = float xw; y = one; z = float zw }
 
 -- a the decoded float: X = float(XW) a, Y = a, Z = float(ZW) a
-abbrev pub grayOf : Xyz → Float → Xyz
-grayOf w a = record { x = mul binary64 (w .x) a; y = a; z = mul binary64 (w .z) a }
+abbrev pub grayXyz : Xyz → Float → Xyz
+grayXyz w a = record { x = mul binary64 (w .x) a; y = a; z = mul binary64 (w .z) a }
 
 -- ---- CalRGB
 
@@ -65,8 +65,8 @@ abbrev pub dot : Float → Float → Float → Float → Float → Float → Flo
 dot p q r a b c = add binary64 (add binary64 (mul binary64 p a) (mul binary64 q b)) (mul binary64 r c)
 
 -- X = ((XA a) + (XB b)) + (XC c), likewise Y and Z
-abbrev pub rgbOf : List (List Float) → Float → Float → Float → Xyz
-rgbOf m a b c =
+abbrev pub rgbXyz : List (List Float) → Float → Float → Float → Xyz
+rgbXyz m a b c =
     record {
       x = dot (entry m 0 0) (entry m 1 0) (entry m 2 0) a b c;
       y = dot (entry m 0 1) (entry m 1 1) (entry m 2 1) a b c;
@@ -112,5 +112,5 @@ unfoldable pub third : ℤ → Float
 third n = share (thirdCubed n) n (whole 5800000000) (pos 108 *ℤ (n -ℤ pos 800000000)) (whole 4877800000000)
 
 -- X = float(XW) g of the first, Y = g of the second, Z = float(ZW) g of the third
-abbrev pub labOf : Xyz → ℤ → ℤ → ℤ → Xyz
-labOf w l a b = record { x = mul binary64 (w .x) (first (labP l a)); y = second l; z = mul binary64 (w .z) (third (labN l b)) }
+abbrev pub labXyz : Xyz → ℤ → ℤ → ℤ → Xyz
+labXyz w l a b = record { x = mul binary64 (w .x) (first (labP l a)); y = second l; z = mul binary64 (w .z) (third (labN l b)) }

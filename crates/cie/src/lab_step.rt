@@ -2,7 +2,7 @@
 ghost use mathlib.Core.Path.{_≡_};
 ghost use lib.Ieee.{binary64, inFloat};
 ghost use lib.Dec.{T};
-ghost use Rattle.cie.specs.Steps.{share, labOf};
+ghost use Rattle.cie.specs.Steps.{share, labXyz};
 use crate::Xyz;
 
 // The cube of v / top where the test passed, and low / bottom where it did not.
@@ -20,7 +20,7 @@ fn share_of(t: bool, v: i64, top: f64, low: i64, bottom: f64) -> f64
 
 // The colour (l, a, b), in millionths, under a white point.
 pub fn lab(w: Xyz, l: i32, a: i32, b: i32) -> Xyz
-    ensures { λ r. ⌜ r ≡ labOf w l a b ⌝ }
+    ensures { λ r. ⌜ r ≡ labXyz w l a b ⌝ }
 {
     let m = (l as i64) + 16000000;
     let p = 125 * m + 29 * (a as i64);

@@ -2,7 +2,7 @@
 ghost use mathlib.Core.Path.{_≡_};
 ghost use Prim.Native.Nat.{_≤_};
 ghost use Rattle.fixed.specs.Numbers.{mostTenths};
-ghost use Rattle.cie.specs.Steps.{tenthsOf, decodedWhole, decoded, whiteOf, matrixOf, grayOf, rgbOf};
+ghost use Rattle.cie.specs.Steps.{tenthsOf, decodedWhole, decoded, whiteOf, matrixOf, grayXyz, rgbXyz};
 use crate::Xyz;
 use crate::tenths::decode_tenths;
 use fixed::TENTHS;
@@ -81,7 +81,7 @@ pub fn decode(a: i32, gamma: i32) -> f64
 
 // CalGray, of a component that is decoded.
 pub fn gray(w: Xyz, a: f64) -> Xyz
-    ensures { λ r. ⌜ r ≡ grayOf w a ⌝ }
+    ensures { λ r. ⌜ r ≡ grayXyz w a ⌝ }
 {
     Xyz {
         x: w.x * a,
@@ -92,7 +92,7 @@ pub fn gray(w: Xyz, a: f64) -> Xyz
 
 // CalRGB, of components that are decoded.
 pub fn rgb(m: [[f64; 3]; 3], a: f64, b: f64, c: f64) -> Xyz
-    ensures { λ r. ⌜ r ≡ rgbOf m a b c ⌝ }
+    ensures { λ r. ⌜ r ≡ rgbXyz m a b c ⌝ }
 {
     Xyz {
         x: m[0][0] * a + m[1][0] * b + m[2][0] * c,

@@ -8,12 +8,12 @@ use page::Verdict;
 use page::validate;
 
 // Evaluates a colour of the space at a number of a page: a block's number, or a device code. The refusal of validation, then 8, then 9, then the answer.
-pub fn evaluate(page: &[u8], number: u32, components: &[i32]) -> Answer
-    ensures { λ r. ⌜ meaning r ≡ evaluated (now (page .entry)) number (now (components .entry)) ⌝ }
+pub fn evaluate(page: &[u8], reference: u32, components: &[i32]) -> Answer
+    ensures { λ r. ⌜ meaning r ≡ evaluated (now (page .entry)) reference (now (components .entry)) ⌝ }
 {
     let v = validate(page);
     match v {
-        Verdict::Accepted => evaluate_space(page, number, components),
+        Verdict::Accepted => evaluate_space(page, reference, components),
         Verdict::Refused { number, block } => Answer::Refused { number, block },
     }
 }

@@ -14,21 +14,17 @@ use mir.ValLaws.{toZ-ofZ}
 pub tested : {w : Width} {a b : ℤ} {t : Bool} → SFits w a → SFits w b → ltZ (toZ w (ofZ w a)) (toZ w (ofZ w b)) ≡ t → ltZ a b ≡ t
 tested {w} {a} {b} f g e = simp (toZ-ofZ w a f, toZ-ofZ w b g) at e
 
--- a number that fits is what is read back from its bits: what a callee says of a signed argument, it says of that
-pub kept : {w : Width} {z : ℤ} → SFits w z → z ≡ toZ w (ofZ w z)
-kept {w} {z} f = sym (toZ-ofZ w z f)
+-- a signed number that went through a local or into a call is itself: what a callee says of a signed argument, it says of that number
+pub signed-back : {w : Width} {z : ℤ} → SFits w z → toZ w (ofZ w z) ≡ z
+signed-back {w} {z} f = toZ-ofZ w z f
 
 -- the same from the bare bound, as a call's `.ok`, a slice's `.v .given` and a struct's `.struct-told .given` have it
-pub came : (z : ℤ) → mag z < 2 ^ 31 → toZ w32 (ofZ w32 z) ≡ z
-came z h = toZ-ofZ w32 z (record { sfits = h })
+pub signed-within : (z : ℤ) → mag z < 2 ^ 31 → toZ w32 (ofZ w32 z) ≡ z
+signed-within z h = signed-back (record { sfits = h })
 
--- and from a record of that bound
-pub back! : {z : ℤ} → SFits w32 z → toZ w32 (ofZ w32 z) ≡ z
-back! {z} h = toZ-ofZ w32 z h
-
--- a number that came, and is y
-pub heard : (z : ℤ) {y : ℤ} → mag z < 2 ^ 31 → z ≡ y → toZ w32 (ofZ w32 z) ≡ y
-heard z h e = came z h ∙ e
+-- and of a number that is said to be y
+pub signed-is : (z : ℤ) {y : ℤ} → mag z < 2 ^ 31 → z ≡ y → toZ w32 (ofZ w32 z) ≡ y
+signed-is z h e = signed-within z h ∙ e
 
 -- a number that is not below 0, and its size as an unsigned one
 pub sign : (z : ℤ) → ltZ z (pos 0) ≡ false → T (nonNeg z)

@@ -41,7 +41,7 @@ fn byte_of(page: &[u8], k: usize) -> u32
 }
 
 // Byte `at` of block n.
-pub fn byte(page: &[u8], n: u32, at: u32) -> u32
+pub fn byte_at(page: &[u8], n: u32, at: u32) -> u32
     ensures is { λ r. ⌜ r ≡ byteAt (blockAt (now (page .entry)) n) at ⌝ }
     ensures small { λ r. ⌜ r ≤ 255 ⌝ }
 {
@@ -50,7 +50,7 @@ pub fn byte(page: &[u8], n: u32, at: u32) -> u32
 }
 
 // The number in the two bytes from `at` on of block n.
-pub fn two(page: &[u8], n: u32, at: u32) -> u32
+pub fn two_at(page: &[u8], n: u32, at: u32) -> u32
     requires { ⌜ at < 512 ⌝ }
     ensures is { λ r. ⌜ r ≡ twoAt (blockAt (now (page .entry)) n) at ⌝ }
     ensures small { λ r. ⌜ r ≤ 65535 ⌝ }
@@ -59,7 +59,7 @@ pub fn two(page: &[u8], n: u32, at: u32) -> u32
     if k + 2 <= page.len() {
         return byte_of(page, k) * 256 + byte_of(page, k + 1);
     }
-    byte(page, n, at) * 256 + byte(page, n, at + 1)
+    byte_at(page, n, at) * 256 + byte_at(page, n, at + 1)
 }
 
 // The number in the four bytes from byte k on of a page that has them.
@@ -76,15 +76,15 @@ fn four(page: &[u8], n: u32, at: u32) -> u32
     requires { ⌜ at < 512 ⌝ }
     ensures { λ r. ⌜ r ≡ fourAt (blockAt (now (page .entry)) n) at ⌝ }
 {
-    let a = byte(page, n, at);
-    let b = byte(page, n, at + 1);
-    let c = byte(page, n, at + 2);
-    let d = byte(page, n, at + 3);
+    let a = byte_at(page, n, at);
+    let b = byte_at(page, n, at + 1);
+    let c = byte_at(page, n, at + 2);
+    let d = byte_at(page, n, at + 3);
     ((a * 256 + b) * 256 + c) * 256 + d
 }
 
 // The signed number in the four bytes from `at` on of block n.
-pub fn number(page: &[u8], n: u32, at: u32) -> i32
+pub fn number_at(page: &[u8], n: u32, at: u32) -> i32
     requires { ⌜ at < 512 ⌝ }
     ensures { λ r. ⌜ r ≡ numberAt (blockAt (now (page .entry)) n) at ⌝ }
 {

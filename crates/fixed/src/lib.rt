@@ -8,13 +8,13 @@ mod rounding;
 mod table;
 mod values;
 
-pub use bytes::byte;
-pub use bytes::number;
+pub use bytes::byte_at;
+pub use bytes::number_at;
 pub use bytes::of_signed;
 pub use bytes::put_number;
 pub use bytes::put_two;
 pub use bytes::to_signed;
-pub use bytes::two;
+pub use bytes::two_at;
 pub use codes::is_device;
 pub use float::float_of;
 pub use limits::is_exponent;

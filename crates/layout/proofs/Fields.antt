@@ -12,7 +12,7 @@ use mir.ValLaws.{toZ-ofZ, ofZ-toZ, ofZ-fits, toZ-fits}
 use Rattle.fixed.specs.Bytes.{twoAt, fourAt, numberAt, twoBytes, fourBytes, bits, signed}
 use Rattle.fixed.specs.Loops.{zeroBetween}
 use Rattle.fixed.proofs.Trips.{digits, two-digits, first, second, third, fourth}
-use Rattle.layout.specs.Field.{Field, one, two, num, run, gap, size, sizes, bytesOf, written, padded, InRange, InRanges, Bytes}
+use Rattle.layout.specs.Field.{Field, one, two, num, run, gap, size, sizes, bytesOf, written, padded, FieldFits, FieldsFit, Bytes}
 use Rattle.layout.proofs.Held.{Holds, held-left, held-right, held-nil, held-cons, held-head, held-join, length-padded, zeros-held, held-zeros}
 
 -- what a field says of the bytes at its place
@@ -103,20 +103,20 @@ module _ (l : List ℕ) (at : ℕ) (b : Bytes l) where
   num-in-range = toZ-fits w32 (fourAt l at) four-fits
 
 -- two layouts, one after the other
-pub in-ranges-join : (fs gs : List Field) → InRanges fs → InRanges gs → InRanges (fs ++ gs)
+pub in-ranges-join : (fs gs : List Field) → FieldsFit fs → FieldsFit gs → FieldsFit (fs ++ gs)
 in-ranges-join [] gs f g = g
 in-ranges-join (x ∷ fs) gs f g = (f .0, in-ranges-join fs gs (f .1) g)
 
 -- ---- what was written is read ..
 
-heard : (l : List ℕ) (at : ℕ) (f : Field) → InRange f → Holds l at (bytesOf f) → Got l at f
+heard : (l : List ℕ) (at : ℕ) (f : Field) → FieldFits f → Holds l at (bytesOf f) → Got l at f
 heard l at (one n) g h = let e : at + 0 ≡ at = omega arith in rw e at (h .each 0 (omega arith))
 heard l at (two n) g h = two-held l at n g h
 heard l at (num z) g h = num-held l at z g h
 heard l at (run n s) g h = h
 heard l at (gap n) g h = let e : at + n - at ≡ n = omega arith in held-zeros l at (at + n) (rw e h)
 
-pub all-heard : (l : List ℕ) (at : ℕ) (fs : List Field) → InRanges fs → Holds l at (written fs) → AllGot l at fs
+pub all-heard : (l : List ℕ) (at : ℕ) (fs : List Field) → FieldsFit fs → Holds l at (written fs) → AllGot l at fs
 all-heard l at [] g h = tt
 all-heard l at (f ∷ fs) g h = (
   heard l at f (g .0) (held-left (bytesOf f) (written fs) h),
@@ -142,13 +142,13 @@ module _ (l : List ℕ) (bytes : Bytes l) where
       (said at f (g .0)) (all-said (at + size f) fs (g .1))
 
   -- what is read of bytes is in its range
-  pub got-in-range : (at : ℕ) (f : Field) → Got l at f → InRange f
+  pub got-in-range : (at : ℕ) (f : Field) → Got l at f → FieldFits f
   got-in-range at (one n) e = rw e at (bytes at)
   got-in-range at (two n) e = rw e at (two-in-range l at bytes)
   got-in-range at (num z) e = rw e at (num-in-range l at bytes)
   got-in-range at (run n s) e = tt
   got-in-range at (gap n) e = tt
 
-  pub got-in-ranges : (at : ℕ) (fs : List Field) → AllGot l at fs → InRanges fs
+  pub got-in-ranges : (at : ℕ) (fs : List Field) → AllGot l at fs → FieldsFit fs
   got-in-ranges at [] g = tt
   got-in-ranges at (f ∷ fs) g = (got-in-range at f (g .0), got-in-ranges (at + size f) fs (g .1))

@@ -11,7 +11,7 @@ use lib.IntN.{ℤ}
 use lib.Signed.{mag}
 use mir.Syntax.{w32}
 use mir.Val.{toZ, ofZ}
-use Rattle.fixed.proofs.Signs.{came}
+use Rattle.fixed.proofs.Signs.{signed-within}
 use Rattle.fixed.proofs.Stores.{sets-append}
 use Rattle.layout.specs.Field.{Field, num, size, sizes, bytesOf, written, puts, padded}
 use Rattle.layout.proofs.Held.{length-padded}
@@ -52,7 +52,7 @@ length-puts (f ∷ fs) d at = length-puts fs (sets d at (bytesOf f)) (at + size 
 
 -- a signed number on its way into a call that stores it
 pub sent : (d : List ℕ) (at : ℕ) (z : ℤ) {x : List ℕ} → mag z < 2 ^ 31 → x ≡ puts d at (num (toZ w32 (ofZ w32 z)) ∷ []) → x ≡ puts d at (num z ∷ [])
-sent d at z h e = e ∙ (λ i. puts d at (num (came z h i) ∷ []))
+sent d at z h e = e ∙ (λ i. puts d at (num (signed-within z h i) ∷ []))
 
 -- one more zero
 zero-more : (n : ℕ) (d : List ℕ) (at : ℕ) → set (sets d at (replicate n 0)) (at + n) 0 ≡ sets d at (replicate (n + 1) 0)

@@ -53,17 +53,17 @@ puts d at [] = d
 puts d at (f ∷ fs) = puts (sets d at (bytesOf f)) (at + size f) fs
 
 -- a number is one that its bytes have room for
-abbrev pub InRange : Field → Type 0
-InRange (one n) = n < 256
-InRange (two n) = n < 65536
-InRange (num z) = SFits w32 z
-InRange (run n s) = Unit
-InRange (gap n) = Unit
+abbrev pub FieldFits : Field → Type 0
+FieldFits (one n) = n < 256
+FieldFits (two n) = n < 65536
+FieldFits (num z) = SFits w32 z
+FieldFits (run n s) = Unit
+FieldFits (gap n) = Unit
 
 -- and so is each number of a layout
-abbrev pub InRanges : List Field → Type 0
-InRanges [] = Unit
-InRanges (f ∷ fs) = InRange f × InRanges fs
+abbrev pub FieldsFit : List Field → Type 0
+FieldsFit [] = Unit
+FieldsFit (f ∷ fs) = FieldFits f × FieldsFit fs
 
 -- bytes: what every list of u8 is, each below 256
 abbrev pub Bytes : List ℕ → Type 0

@@ -3,7 +3,7 @@ use mathlib.Core.Path.{_≡_}
 use mathlib.Core.List.{List}
 use Prim.Native.Nat.{ℕ, _/_}
 use lib.ListN.{length}
-use Rattle.space.specs.Numbers.{kindAt}
+use Rattle.space.specs.Numbers.{kindNumbered}
 use Rattle.space.specs.Spaces.{countOf, wordsOf}
 use Rattle.space.specs.Pages.{spaceAt}
 use Rattle.page.specs.Outcomes.{accepted, refused}
@@ -12,7 +12,7 @@ use Rattle.lines.specs.Texts.{text}
 use Rattle.lines.specs.Digits.{digits, digitsIn}
 use Rattle.lines.specs.Listing.{isSpace, familyOf, lineOf, lineAt, linesOf, acceptedText, refusedText, listing}
 
-pub one-gray : (page : List ℕ) → validated page ≡ accepted → length page / 512 ≡ 1 → countOf (spaceAt page 0) ≡ 1 → wordsOf (spaceAt page 0) ≡ 9 → kindAt page 0 ≡ 1
+pub one-gray : (page : List ℕ) → validated page ≡ accepted → length page / 512 ≡ 1 → countOf (spaceAt page 0) ≡ 1 → wordsOf (spaceAt page 0) ≡ 9 → kindNumbered page 0 ≡ 1
     → listing page ≡ text "blocks 1\n0 CalGray 1 9\n"
 unfolding listing acceptedText linesOf lineAt isSpace lineOf familyOf digits digitsIn
 one-gray page a n m w k = rw (a, n, m, w, k)

@@ -7,7 +7,7 @@ use native.Mathlib.Numerals.{add-one}
 use native.Mathlib.Omega.{arith}
 use borrow.Author.Tests.{ne-eqb}
 use lib.ListN.{length}
-use Rattle.space.specs.Numbers.{kindAt}
+use Rattle.space.specs.Numbers.{kindNumbered}
 use Rattle.space.specs.Spaces.{Space, countOf, wordsOf}
 use Rattle.space.specs.Pages.{spaceAt}
 use Rattle.page.specs.Outcomes.{Outcome}
@@ -31,11 +31,11 @@ unfolding lineOf
 columns i k m w kind s x y z p q t u = rw (← x, ← y, ← z) (same (simp append-assoc) (then (then (then p q) t) u))
 
 -- what a block adds, by the test of its kind
-module _ (page : List ℕ) (i : ℕ) {k : ℕ} {t : Bool} (e : k ≡ kindAt page i) (f : t ≡ isSpace k) where
-  is-kind : isSpace (kindAt page i) ≡ t
+module _ (page : List ℕ) (i : ℕ) {k : ℕ} {t : Bool} (e : k ≡ kindNumbered page i) (f : t ≡ isSpace k) where
+  is-kind : isSpace (kindNumbered page i) ≡ t
   is-kind = sym (f ∙ ap isSpace e)
 
-  pub space-line : t ≡ true → lineOf i (kindAt page i) (spaceAt page i) ≡ lineAt page i
+  pub space-line : t ≡ true → lineOf i (kindNumbered page i) (spaceAt page i) ≡ lineAt page i
   unfolding lineAt
   space-line h = rw (is-kind, h)
 

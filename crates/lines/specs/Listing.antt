@@ -6,7 +6,7 @@ use mathlib.Core.List.{List, [], _++_}
 use lib.Dec.{eqb, leb}
 use lib.ListN.{length}
 use Rattle.fixed.specs.Bytes.{blocks}
-use Rattle.space.specs.Numbers.{kindAt}
+use Rattle.space.specs.Numbers.{kindNumbered}
 use Rattle.space.specs.Spaces.{Space, countOf, wordsOf}
 use Rattle.space.specs.Pages.{spaceAt}
 use Rattle.page.specs.Outcomes.{Outcome, accepted, refused}
@@ -33,7 +33,7 @@ lineOf i kind s = digits i ++ text " " ++ familyOf kind ++ text " " ++ digits (c
 
 -- what block i adds: its line where it is a space, and else nothing
 unfoldable pub lineAt : List ℕ → ℕ → List ℕ
-lineAt page i = cond (isSpace (kindAt page i)) (lineOf i (kindAt page i) (spaceAt page i)) []
+lineAt page i = cond (isSpace (kindNumbered page i)) (lineOf i (kindNumbered page i) (spaceAt page i)) []
 
 -- the lines of the first n blocks, in their order
 unfoldable pub linesOf : List ℕ → ℕ → List ℕ

@@ -4,7 +4,7 @@ ghost use Prim.Native.Nat.{_+_, _*_, _/_, _≤_};
 ghost use mathlib.Core.List.{_++_};
 ghost use lib.ListN.{length};
 ghost use Rattle.fixed.specs.Bytes.{blocks};
-ghost use Rattle.space.specs.Numbers.{kindAt};
+ghost use Rattle.space.specs.Numbers.{kindNumbered};
 ghost use Rattle.space.specs.Pages.{spaceAt};
 ghost use Rattle.lines.specs.Texts.{text, over};
 ghost use Rattle.lines.specs.Listing.{isSpace, familyOf, lineOf, lineAt, linesOf, acceptedText, refusedText, listing, longest};
@@ -42,7 +42,7 @@ fn put_family(out: &mut [u8], at: usize, k: u32) -> usize
 // Puts the line of block i: number, family, components and recipe words of its space.
 fn put_line(out: &mut [u8], at: usize, page: &[u8], i: u32) -> usize
     requires { ⌜ at + 44 ≤ longest ⌝ }
-    ensures { λ r. ⌜ Put 44 (now (out .entry)) at (lineOf i (kindAt (now (page .entry)) i) (spaceAt (now (page .entry)) i)) (now (out .exit)) r ⌝ }
+    ensures { λ r. ⌜ Put 44 (now (out .entry)) at (lineOf i (kindNumbered (now (page .entry)) i) (spaceAt (now (page .entry)) i)) (now (out .exit)) r ⌝ }
 {
     let a = put_column(out, at, i, b' ');
     let b = put_family(out, a, kind(page, i));

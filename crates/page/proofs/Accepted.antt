@@ -15,11 +15,11 @@ use Rattle.fixed.proofs.Decide.{cond-ind, passed, and-left, and-right}
 use Rattle.fixed.proofs.Scans.{first-none, first-all}
 use Rattle.record.specs.Layout.{checked}
 use Rattle.record.specs.Reading.{kindAt, ownAt, bodyBy, bodyAt}
-use Rattle.record.specs.Rules.{known, formed, lawful, supported}
+use Rattle.record.specs.Rules.{wellLaid, wellFormed, lawful, supported}
 use Rattle.record.specs.declared.types.Body.{Body}
 use Rattle.record.specs.declared.types.Body.the-variants.{Free}
 use Rattle.page.specs.Outcomes.{Outcome, accepted, refused, andThen}
-use Rattle.page.specs.Validation.{wellSized, faultOne, faultTwo, faultOwed, owedAt, permitted, held, passes, validated}
+use Rattle.page.specs.Validation.{wellSized, faultOne, faultTwo, faultClaimed, claimedAt, permitted, wellFilled, passes, validated}
 use Rattle.page.proofs.Sizes.{sized-whole, sized-most}
 
 -- a refusal is no acceptance
@@ -69,34 +69,34 @@ module _ (page : List ℕ) (ok : validated page ≡ accepted) where
 
   -- what holds of each block of the page
   module _ (i : ℕ) (l : i < length page / 512) where
-    one : (checked (blockAt page i) ≡ true) × ((formed (blockAt page i) && eqb (ownAt (blockAt page i)) i) ≡ true)
+    one : (checked (blockAt page i) ≡ true) × ((wellFormed (blockAt page i) && eqb (ownAt (blockAt page i)) i) ≡ true)
     unfolding faultOne
     one =
         let a = passed (checked (blockAt page i)) _ 2 (λ e. omega arith) (none-one i l) in
-        (a .0, passed (formed (blockAt page i) && eqb (ownAt (blockAt page i)) i) 0 3 (λ e. omega arith) (a .1) .0)
+        (a .0, passed (wellFormed (blockAt page i) && eqb (ownAt (blockAt page i)) i) 0 3 (λ e. omega arith) (a .1) .0)
 
     -- 2 and 3 are not due: its check is right, its kind known and its bytes in form, and it has its own number
     pub checked-at : checked (blockAt page i) ≡ true
     checked-at = one .0
 
-    pub formed-at : formed (blockAt page i) ≡ true
+    pub formed-at : wellFormed (blockAt page i) ≡ true
     formed-at = and-left _ _ (one .1)
 
     pub own-at : ownAt (blockAt page i) ≡ i
-    own-at = eqb-true _ _ (and-right (formed (blockAt page i)) _ (one .1))
+    own-at = eqb-true _ _ (and-right (wellFormed (blockAt page i)) _ (one .1))
 
     -- its number is one that a block can have
     pub below-most : i < blocks
     below-most = omega (arith, sized-most _ well-sized)
 
     two : (lawful (bodyAt (blockAt page i)) ≡ true) × (supported (bodyAt (blockAt page i)) ≡ true)
-        × (permitted page (bodyAt (blockAt page i)) ≡ true) × (held page i (owedAt page i) (bodyAt (blockAt page i)) ≡ true)
-    unfolding faultTwo faultOwed
+        × (permitted page (bodyAt (blockAt page i)) ≡ true) × (wellFilled page i (claimedAt page i) (bodyAt (blockAt page i)) ≡ true)
+    unfolding faultTwo faultClaimed
     two =
         let a = passed (lawful (bodyAt (blockAt page i))) _ 4 (λ e. omega arith) (none-two i l) in
         let b = passed (supported (bodyAt (blockAt page i))) _ 5 (λ e. omega arith) (a .1) in
         let c = passed (permitted page (bodyAt (blockAt page i))) _ 6 (λ e. omega arith) (b .1) in
-        let d = passed (held page i (owedAt page i) (bodyAt (blockAt page i))) _ 7 (λ e. omega arith) (c .1) in
+        let d = passed (wellFilled page i (claimedAt page i) (bodyAt (blockAt page i))) _ 7 (λ e. omega arith) (c .1) in
         (a .0, b .0, c .0, d .0)
 
     -- 4 to 7 are not due: its numbers are lawful and supported, its reference permitted, and what it holds is in order
@@ -109,7 +109,7 @@ module _ (page : List ℕ) (ok : validated page ≡ accepted) where
     pub permitted-at : permitted page (bodyAt (blockAt page i)) ≡ true
     permitted-at = two .2
 
-    pub held-at : held page i (owedAt page i) (bodyAt (blockAt page i)) ≡ true
+    pub held-at : wellFilled page i (claimedAt page i) (bodyAt (blockAt page i)) ≡ true
     held-at = two .3
 
   -- the kind past the last block is 0
@@ -120,11 +120,11 @@ module _ (page : List ℕ) (ok : validated page ≡ accepted) where
 
   -- byte 0 of each block is a known kind, and 0 past the page
   pub kind-known : (n : ℕ) → byteAt (blockAt page n) 0 ≤ 6
-  unfolding formed known
+  unfolding wellFormed wellLaid
   kind-known n = within (decLt n (length page / 512))
     where
       within : Dec (n < length page / 512) → byteAt (blockAt page n) 0 ≤ 6
-      within (yes w) = leb-true _ 6 (and-left _ _ (and-left (known (blockAt page n)) _ (formed-at n w)))
+      within (yes w) = leb-true _ 6 (and-left _ _ (and-left (wellLaid (blockAt page n)) _ (formed-at n w)))
       within (no w) = omega (arith, past n (omega arith))
 
   -- 4 to 6 are due of no block, nor of one that the page does not have, which is free

@@ -12,7 +12,7 @@ use Rattle.fixed.specs.Bytes.{blocks, device, blockAt}
 use Rattle.fixed.proofs.Decide.{and-left, and-right, both}
 use Rattle.record.specs.Layout.{checked}
 use Rattle.record.specs.Reading.{ownAt, bodyAt, recordAt}
-use Rattle.record.specs.Rules.{known, shaped, lawful, supported, refers, faultOf, faultAt}
+use Rattle.record.specs.Rules.{wellLaid, wellShaped, lawful, supported, refers, faultOf, faultAt}
 use Rattle.record.specs.declared.types.Body.{Body}
 use Rattle.record.specs.declared.types.Body.the-variants.{Free, CalGray, CalRgb, Lab, Indexed, Separation, Palette}
 use Rattle.record.proofs.Shapes.{formed-shaped}
@@ -57,7 +57,7 @@ module _ (page : List ℕ) (ok : validated page ≡ accepted) (i : ℕ) (l : i <
   pub alone-checked : checked (ownBytes page i) ≡ true
   alone-checked = sym (checked-within page i) ∙ checked-at page ok i l
 
-  shape : (known (ownBytes page i) && shaped (recordAt (ownBytes page i))) ≡ true
+  shape : (wellLaid (ownBytes page i) && wellShaped (recordAt (ownBytes page i))) ≡ true
   shape =
       let o : ownAt (ownBytes page i) ≡ i = sym (own-within page i) ∙ own-at page ok i l in
       let n : ltb (ownAt (ownBytes page i)) blocks ≡ true = rw o (lt-ltb i blocks (below-most page ok i l)) in
@@ -68,6 +68,6 @@ module _ (page : List ℕ) (ok : validated page ≡ accepted) (i : ℕ) (l : i <
   unfolding faultAt faultOf recordAt
   alone-clean =
       let e = sym (body-within page i) in
-      none-due (known (ownBytes page i)) (shaped (recordAt (ownBytes page i))) (lawful (bodyAt (ownBytes page i))) (supported (bodyAt (ownBytes page i)))
-      (refers (bodyAt (ownBytes page i))) (and-left (known (ownBytes page i)) _ shape) (and-right (known (ownBytes page i)) _ shape)
+      none-due (wellLaid (ownBytes page i)) (wellShaped (recordAt (ownBytes page i))) (lawful (bodyAt (ownBytes page i))) (supported (bodyAt (ownBytes page i)))
+      (refers (bodyAt (ownBytes page i))) (and-left (wellLaid (ownBytes page i)) _ shape) (and-right (wellLaid (ownBytes page i)) _ shape)
       (ap lawful e ∙ lawful-at page ok i l) (ap supported e ∙ supported-at page ok i l) (ap refers e ∙ permitted-refers page _ (permitted-at page ok i l))

@@ -9,7 +9,7 @@ use lib.Seq.{getD-take}
 use Rattle.fixed.specs.Bytes.{blockAt, byteAt}
 use Rattle.record.specs.Layout.{checked}
 use Rattle.record.specs.Reading.{ownAt, bodyAt}
-use Rattle.record.specs.Rules.{formed}
+use Rattle.record.specs.Rules.{wellFormed}
 use Rattle.record.proofs.Same.{checked-same, own-same, body-same, formed-same}
 use Rattle.page.specs.Validation.{faultOne}
 
@@ -28,13 +28,13 @@ module _ (page : List ℕ) (i : ℕ) where
   pub own-within : ownAt (blockAt page i) ≡ ownAt (ownBytes page i)
   own-within = own-same (blockAt page i) (ownBytes page i) byte-within
 
-  pub formed-within : formed (blockAt page i) ≡ formed (ownBytes page i)
+  pub formed-within : wellFormed (blockAt page i) ≡ wellFormed (ownBytes page i)
   formed-within = formed-same (blockAt page i) (ownBytes page i) byte-within
 
   pub body-within : bodyAt (blockAt page i) ≡ bodyAt (ownBytes page i)
   body-within = body-same (blockAt page i) (ownBytes page i) byte-within
 
   -- what the first pass finds in a block is seen in its own bytes
-  pub fault-within : faultOne page i ≡ cond (checked (ownBytes page i)) (cond (formed (ownBytes page i) && eqb (ownAt (ownBytes page i)) i) 0 3) 2
+  pub fault-within : faultOne page i ≡ cond (checked (ownBytes page i)) (cond (wellFormed (ownBytes page i) && eqb (ownAt (ownBytes page i)) i) 0 3) 2
   unfolding faultOne
   fault-within = rw (checked-within, formed-within, own-within)

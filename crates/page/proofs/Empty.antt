@@ -10,19 +10,19 @@ use Rattle.fixed.specs.Loops.{total, allFrom, zeroBetween, firstFrom}
 use Rattle.fixed.proofs.Listed.{zeros-at}
 use Rattle.record.specs.Layout.{plain, weighed, checked}
 use Rattle.record.specs.Reading.{bodyBy, bodyAt}
-use Rattle.record.specs.Rules.{known, nameShown, formed, lawful, supported}
+use Rattle.record.specs.Rules.{wellLaid, nameShown, wellFormed, lawful, supported}
 use Rattle.record.specs.declared.types.Body.the-variants.{Free}
 use Rattle.space.specs.Spaces.{countOf, none}
 use Rattle.space.specs.Pages.{plainOf, tintedOf, spaceOf, spaceAt}
 use Rattle.page.specs.Outcomes.{accepted}
-use Rattle.page.specs.Validation.{wellSized, faultOne, permitted, owedAt, held, faultOwed, faultTwo, validated}
+use Rattle.page.specs.Validation.{wellSized, faultOne, permitted, claimedAt, wellFilled, faultClaimed, faultTwo, validated}
 
 abbrev pub zeroPage : List ℕ
 zeroPage = replicate 512 0
 
 -- by computing
 pub zero-accepted : validated zeroPage ≡ accepted
-unfolding validated wellSized faultOne faultTwo faultOwed owedAt permitted held checked plain weighed bodyBy known nameShown formed lawful supported total allFrom zeroBetween firstFrom
+unfolding validated wellSized faultOne faultTwo faultClaimed claimedAt permitted wellFilled checked plain weighed bodyBy wellLaid nameShown wellFormed lawful supported total allFrom zeroBetween firstFrom
 zero-accepted = refl
 
 -- every block is free

@@ -2,7 +2,7 @@
 pub mod Sizes
 pub mod Accepted
 pub mod Permits
-pub mod Wholes
+pub mod WellMade
 pub mod Bytes
 pub mod Alone
 pub mod Empty

@@ -8,7 +8,7 @@ use Rattle.fixed.specs.Bytes.{blocks, device, blockAt}
 use Rattle.fixed.specs.Loops.{unless, allBetween, firstFrom}
 use Rattle.record.specs.Layout.{room, checked}
 use Rattle.record.specs.Reading.{ownAt, bodyAt}
-use Rattle.record.specs.Rules.{formed, lawful, supported, isPalette, paletteEnds, entriesEnd}
+use Rattle.record.specs.Rules.{wellFormed, lawful, supported, isPalette, paletteEnds, entriesEnd}
 use Rattle.record.specs.declared.types.Separation.{Separation as Ink}
 use Rattle.record.specs.declared.types.Body.{Body}
 use Rattle.record.specs.declared.types.Body.the-variants.{Free, CalGray, CalRgb, Lab, Indexed, Separation, Palette}
@@ -25,7 +25,7 @@ wellSized n = eqb (n % 512) 0 && (leb 1 (n / 512) && leb (n / 512) blocks)
 
 -- 2: its check differs. 3: unknown kind, a byte not zero that must be, a name that does not fit; a wrong own number
 unfoldable pub faultOne : List ℕ → ℕ → ℕ
-faultOne page i = unless (checked (blockAt page i)) 2 (unless (formed (blockAt page i) && eqb (ownAt (blockAt page i)) i) 3 0)
+faultOne page i = unless (checked (blockAt page i)) 2 (unless (wellFormed (blockAt page i) && eqb (ownAt (blockAt page i)) i) 3 0)
 
 -- ---- the second pass: 4 and 5 are those of a single block
 
@@ -83,8 +83,8 @@ runLength size = (size + (room - 1)) / room
 unfoldable pub palettes : List ℕ → ℕ → ℕ → Bool
 palettes page from to = allBetween (λ k. isPalette (bodyAt (blockAt page k))) from to
 
-unfoldable pub runHeld : List ℕ → ℕ → ℕ → Bool
-runHeld page i size =
+unfoldable pub runFilled : List ℕ → ℕ → ℕ → Bool
+runFilled page i size =
     palettes page (i + 1) (i + 1 + runLength size)
     && paletteEnds (blockAt page (i + runLength size)) (size - room * (runLength size - 1))
 
@@ -93,35 +93,35 @@ unfoldable pub unusedZero : Ink → ℕ → Bool
 unusedZero p m = entriesEnd (p .c0) m && entriesEnd (p .c1) m
 
 -- 7, a stray palette block: how many blocks past one whose body is y the last Indexed block before them claims
-unfoldable pub owedAfter : List ℕ → Body → ℕ → ℕ
-owedAfter page Free owed = owed - 1
-owedAfter page (CalGray g) owed = owed - 1
-owedAfter page (CalRgb g) owed = owed - 1
-owedAfter page (Lab g) owed = owed - 1
-owedAfter page (Indexed base hival) owed = runLength (paletteSize (within page (Indexed base hival)) hival)
-owedAfter page (Separation p) owed = owed - 1
-owedAfter page Palette owed = owed - 1
+unfoldable pub claimedAfter : List ℕ → Body → ℕ → ℕ
+claimedAfter page Free claimed = claimed - 1
+claimedAfter page (CalGray g) claimed = claimed - 1
+claimedAfter page (CalRgb g) claimed = claimed - 1
+claimedAfter page (Lab g) claimed = claimed - 1
+claimedAfter page (Indexed base hival) claimed = runLength (paletteSize (within page (Indexed base hival)) hival)
+claimedAfter page (Separation p) claimed = claimed - 1
+claimedAfter page Palette claimed = claimed - 1
 
 -- and how many from block i on
-unfoldable pub owedAt : List ℕ → ℕ → ℕ
-owedAt page zero = 0
-owedAt page (suc i) = owedAfter page (bodyAt (blockAt page i)) (owedAt page i)
+unfoldable pub claimedAt : List ℕ → ℕ → ℕ
+claimedAt page zero = 0
+claimedAt page (suc i) = claimedAfter page (bodyAt (blockAt page i)) (claimedAt page i)
 
-unfoldable pub held : List ℕ → ℕ → ℕ → Body → Bool
-held page i owed Free = true
-held page i owed (CalGray g) = true
-held page i owed (CalRgb g) = true
-held page i owed (Lab g) = true
-held page i owed (Indexed base hival) = runHeld page i (paletteSize (within page (Indexed base hival)) hival)
-held page i owed (Separation p) = unusedZero p (within page (Separation p))
-held page i owed Palette = ltb 0 owed
+unfoldable pub wellFilled : List ℕ → ℕ → ℕ → Body → Bool
+wellFilled page i claimed Free = true
+wellFilled page i claimed (CalGray g) = true
+wellFilled page i claimed (CalRgb g) = true
+wellFilled page i claimed (Lab g) = true
+wellFilled page i claimed (Indexed base hival) = runFilled page i (paletteSize (within page (Indexed base hival)) hival)
+wellFilled page i claimed (Separation p) = unusedZero p (within page (Separation p))
+wellFilled page i claimed Palette = ltb 0 claimed
 
 -- the second pass on block i, whose body is y, with so many blocks still claimed
-unfoldable pub faultOwed : List ℕ → ℕ → ℕ → Body → ℕ
-faultOwed page i owed y = unless (lawful y) 4 (unless (supported y) 5 (unless (permitted page y) 6 (unless (held page i owed y) 7 0)))
+unfoldable pub faultClaimed : List ℕ → ℕ → ℕ → Body → ℕ
+faultClaimed page i claimed y = unless (lawful y) 4 (unless (supported y) 5 (unless (permitted page y) 6 (unless (wellFilled page i claimed y) 7 0)))
 
 unfoldable pub faultTwo : List ℕ → ℕ → ℕ
-faultTwo page i = faultOwed page i (owedAt page i) (bodyAt (blockAt page i))
+faultTwo page i = faultClaimed page i (claimedAt page i) (bodyAt (blockAt page i))
 
 -- ---- the whole page, of n blocks
 

@@ -8,7 +8,7 @@ ghost use Rattle.page.specs.Outcomes.{accepted, refused, meaning};
 ghost use Rattle.page.specs.Validation.{faultOne};
 use crate::Verdict;
 use record::is_checked;
-use record::is_formed;
+use record::is_well_formed;
 use record::own_at;
 
 // The refusal of block i that the first pass finds, or 0.
@@ -17,7 +17,7 @@ fn fault_one(page: &[u8], i: u32) -> u32
     ensures { λ r. ⌜ r ≡ faultOne (now (page .entry)) i ⌝ }
 {
     let checked = is_checked(page, i);
-    let formed = is_formed(page, i) & (own_at(page, i) as u32 == i);
+    let formed = is_well_formed(page, i) & (own_at(page, i) as u32 == i);
     if !checked {
         return 2;
     }

@@ -6,7 +6,7 @@ ghost use Rattle.fixed.specs.Bytes.{blocks};
 ghost use Rattle.fixed.specs.Loops.{firstFrom};
 ghost use Rattle.fixed.specs.Values.{places};
 ghost use Rattle.page.specs.Outcomes.{accepted, refused, meaning};
-ghost use Rattle.page.specs.Validation.{permitted, within, paletteSize, runLength, palettes, runHeld, unusedZero, owedAfter, held, faultOwed, faultTwo};
+ghost use Rattle.page.specs.Validation.{permitted, within, paletteSize, runLength, palettes, runFilled, unusedZero, claimedAfter, wellFilled, faultClaimed, faultTwo};
 ghost use Rattle.space.specs.Pages.{entries};
 use crate::Verdict;
 use record::Body;
@@ -92,9 +92,9 @@ fn all_palettes(page: &[u8], from: u32, to: u32) -> bool
 }
 
 // Whether the palette of so many bytes stands straight after block i, with nothing after it in its last block.
-fn run_held(page: &[u8], i: u32, size: u32) -> bool
+fn run_filled(page: &[u8], i: u32, size: u32) -> bool
     requires { ⌜ (i < blocks) × (size ≤ entries) ⌝ }
-    ensures { λ r. ⌜ r ≡ runHeld (now (page .entry)) i size ⌝ }
+    ensures { λ r. ⌜ r ≡ runFilled (now (page .entry)) i size ⌝ }
 {
     let n = run_length(size);
     let used = size - ROOM * less(n);
@@ -111,47 +111,47 @@ fn unused_zero(p: Separation, m: u32) -> bool
 }
 
 // The blocks that are claimed as palette after one whose body is y, over a space of m components.
-fn owed_after(y: Body, m: u32, owed: u32) -> u32
+fn claimed_after(y: Body, m: u32, claimed: u32) -> u32
     requires { ⌜ m ≤ places ⌝ }
-    ensures { λ r. ⌜ ((page : List ℕ) → m ≡ within page y → r ≡ owedAfter page y owed) ⌝ }
+    ensures { λ r. ⌜ ((page : List ℕ) → m ≡ within page y → r ≡ claimedAfter page y claimed) ⌝ }
 {
     match y {
-        Body::Free => less(owed),
-        Body::CalGray(_) => less(owed),
-        Body::CalRgb(_) => less(owed),
-        Body::Lab(_) => less(owed),
+        Body::Free => less(claimed),
+        Body::CalGray(_) => less(claimed),
+        Body::CalRgb(_) => less(claimed),
+        Body::Lab(_) => less(claimed),
         Body::Indexed { base: _, hival } => run_length(palette_size(m, hival)),
-        Body::Separation(_) => less(owed),
-        Body::Palette => less(owed),
+        Body::Separation(_) => less(claimed),
+        Body::Palette => less(claimed),
     }
 }
 
 // Whether what a body has after it and past its counts is in order, over a space of m components, with so many blocks claimed from block i on: else it is
 // refused with 7.
-fn holds(page: &[u8], i: u32, owed: u32, y: Body, m: u32) -> bool
+fn is_well_filled(page: &[u8], i: u32, claimed: u32, y: Body, m: u32) -> bool
     requires { ⌜ (i < blocks) × (m ≤ places) × (m ≡ within (now page) y) ⌝ }
-    ensures { λ r. ⌜ r ≡ held (now (page .entry)) i owed y ⌝ }
+    ensures { λ r. ⌜ r ≡ wellFilled (now (page .entry)) i claimed y ⌝ }
 {
     match y {
         Body::Free => true,
         Body::CalGray(_) => true,
         Body::CalRgb(_) => true,
         Body::Lab(_) => true,
-        Body::Indexed { base: _, hival } => run_held(page, i, palette_size(m, hival)),
+        Body::Indexed { base: _, hival } => run_filled(page, i, palette_size(m, hival)),
         Body::Separation(p) => unused_zero(p, m),
-        Body::Palette => 0 < owed,
+        Body::Palette => 0 < claimed,
     }
 }
 
 // The first refusal of 4, 5, 6, 7 that block i meets, or 0: y is its body, and m the components of the space within.
-fn fault_owed(page: &[u8], i: u32, owed: u32, y: Body, m: u32) -> u32
+fn fault_claimed(page: &[u8], i: u32, claimed: u32, y: Body, m: u32) -> u32
     requires { ⌜ (i < blocks) × (m ≤ places) × (m ≡ within (now page) y) ⌝ }
-    ensures { λ r. ⌜ r ≡ faultOwed (now (page .entry)) i owed y ⌝ }
+    ensures { λ r. ⌜ r ≡ faultClaimed (now (page .entry)) i claimed y ⌝ }
 {
     let lawful = is_lawful(y);
     let supported = is_supported(y);
     let permitted = permits(y, m);
-    let held = holds(page, i, owed, y, m);
+    let filled = is_well_filled(page, i, claimed, y, m);
     if !lawful {
         return 4;
     }
@@ -161,7 +161,7 @@ fn fault_owed(page: &[u8], i: u32, owed: u32, y: Body, m: u32) -> u32
     if !permitted {
         return 6;
     }
-    if !held {
+    if !filled {
         return 7;
     }
     0
@@ -173,15 +173,15 @@ pub fn pass_two(page: &[u8], n: u32) -> Verdict
     ensures { λ r. ⌜ meaning r ≡ firstFrom accepted refused (faultTwo (now (page .entry))) 0 n ⌝ }
 {
     let mut i: u32 = 0;
-    let mut owed: u32 = 0;
+    let mut claimed: u32 = 0;
     while i < n {
         let y = body_at(page, i);
         let m = count_within(page, y);
-        let number = fault_owed(page, i, owed, y, m);
+        let number = fault_claimed(page, i, claimed, y, m);
         if number != 0 {
             return Verdict::Refused { number, block: i };
         }
-        owed = owed_after(y, m, owed);
+        claimed = claimed_after(y, m, claimed);
         i += 1;
     }
     Verdict::Accepted

@@ -23,11 +23,11 @@ use Rattle.cie.specs.Closings.{calGrayOf, inThree, closed}
 use Rattle.cie.proofs.Facts.{one-float, gray-white}
 use Rattle.space.specs.Spaces.{Space, calGray, separation, countOf}
 use Rattle.space.specs.Pages.{spaceAt}
-use Rattle.space.specs.Wholes.{Whole}
+use Rattle.space.specs.WellMade.{WellMade}
 use Rattle.space.proofs.Counts.{count-high}
 use Rattle.page.specs.Outcomes.{accepted}
 use Rattle.page.specs.Validation.{validated}
-use Rattle.page.proofs.Wholes.{whole-at}
+use Rattle.page.proofs.WellMade.{well-made-at}
 use Rattle.colour.specs.Colours.{limitedTo, valued, answered}
 use Rattle.colour.specs.Evaluating.{evaluated}
 use Rattle.colour.proofs.Replies.{page-accepted}
@@ -84,13 +84,13 @@ tint-close (suc n) x c0 c1 low high hx u v =
 
 -- what a Separation hands its alternate
 module _ (page : List ℕ) (n e : ℕ) (c0 c1 : List ℤ) (s : Space) (ok : validated page ≡ accepted) (is : spaceAt page n ≡ separation e c0 c1 s) where
-  made : Whole (separation e c0 c1 s)
+  made : WellMade (separation e c0 c1 s)
   made =
       let some : 1 ≤ countOf (spaceAt page n) = rw is (omega arith) in
-      subst (λ (t : Space). Whole t) is (whole-at page n ok some)
+      subst (λ (t : Space). WellMade t) is (well-made-at page n ok some)
 
   supported : exponentSupported e ≡ true
-  unfolding Whole
+  unfolding WellMade
   supported = made .0
 
   module _ (tint : ℤ) (k : ℕ) (lt : k < countOf s) (u : InUnit (value c0 k)) (v : InUnit (value c1 k)) where

@@ -8,7 +8,7 @@ use lib.IntN.{ℤ}
 use lib.ListN.{length, length-append}
 use Rattle.space.specs.Spaces.{Space, none, gray, rgb, cmyk, calGray, calRgb, lab, separation, indexed, countOf, wordsOf}
 use Rattle.space.specs.Pages.{tableOf, c0Of, c1Of, spaceAt}
-use Rattle.space.specs.Wholes.{rankOf, Whole}
+use Rattle.space.specs.WellMade.{rankOf, WellMade}
 use Rattle.space.specs.Levels.{spaceIn, levelAt}
 use Rattle.space.specs.declared.nesting.Level.{Level}
 use Rattle.space.proofs.Levels.{level-space, space-ind, by-rank}
@@ -50,8 +50,8 @@ plain-length (separation e c0 c1 s) r = absurd (omega arith)
 plain-length (indexed h t s) r = absurd (omega arith)
 
 -- a space that is well made
-pub recipe-length : (s : Space) → Whole s → length (recipeOf s) ≡ wordsOf s
-unfolding Whole
+pub recipe-length : (s : Space) → WellMade s → length (recipeOf s) ≡ wordsOf s
+unfolding WellMade
 recipe-length none w = plain-length none (omega arith)
 recipe-length gray w = plain-length gray (omega arith)
 recipe-length rgb w = plain-length rgb (omega arith)
@@ -102,15 +102,15 @@ indexed-few h t s l f =
     omega arith
 
 -- no recipe of a space that is well made is longer
-base-few : (s : Space) → rankOf s < 2 → Whole s → Few s
-unfolding Whole
-base-few = by-rank (λ (s : Space). rankOf s < 2 → Whole s → Few s) (λ s p _ _. plain-few s p .1) (λ e c0 c1 s _ w. separation-few e c0 c1 s (w .3)) (λ h t s r w. absurd (omega arith))
+base-few : (s : Space) → rankOf s < 2 → WellMade s → Few s
+unfolding WellMade
+base-few = by-rank (λ (s : Space). rankOf s < 2 → WellMade s → Few s) (λ s p _ _. plain-few s p .1) (λ e c0 c1 s _ w. separation-few e c0 c1 s (w .3)) (λ h t s r w. absurd (omega arith))
 
-words-short : (s : Space) → Whole s → wordsOf s ≤ longest
-unfolding Whole
+words-short : (s : Space) → WellMade s → wordsOf s ≤ longest
+unfolding WellMade
 words-short =
-    by-rank (λ (s : Space). Whole s → wordsOf s ≤ longest) (λ s p _. omega (arith, plain-few s p .0))
+    by-rank (λ (s : Space). WellMade s → wordsOf s ≤ longest) (λ s p _. omega (arith, plain-few s p .0))
     (λ e c0 c1 s w. omega (arith, separation-few e c0 c1 s (w .3))) (λ h t s w. indexed-few h t s (w .0) (base-few s (w .2) (w .3)))
 
-pub recipe-short : (s : Space) → Whole s → length (recipeOf s) ≤ longest
+pub recipe-short : (s : Space) → WellMade s → length (recipeOf s) ≤ longest
 recipe-short s w = rw (recipe-length s w) (words-short s w)

@@ -13,28 +13,28 @@ use Rattle.page.specs.Validation.{validated}
 use Rattle.space.specs.Spaces.{Space, countOf}
 use Rattle.space.specs.Pages.{spaceAt}
 use Rattle.recipe.specs.Recipes.{stepsOf, recipeOf}
-use Rattle.recipe.specs.Writes.{Reply, wrote, refusal, replied, left}
-use Rattle.recipe.specs.Writing.{writeReply, writeLeft}
+use Rattle.recipe.specs.SpaceWrites.{Reply, wrote, refusal, replied, wordsAfter}
+use Rattle.recipe.specs.PageWrites.{writeReply, writeWords}
 
 -- m being the space's count, and r the words of its recipe
 module _ (s : Space) (d : List ℤ) (m : ℕ) (em : m ≡ countOf s) where
-  pub reply-none : m ≡ 0 → (refusal 8 0 ≡ replied s d) × (d ≡ left s d)
-  unfolding replied left
+  pub reply-none : m ≡ 0 → (refusal 8 0 ≡ replied s d) × (d ≡ wordsAfter s d)
+  unfolding replied wordsAfter
   reply-none z = let k = eq-eqb (countOf s) 0 (sym em ∙ z) in (simp k, simp k)
 
   module _ (some : m ≡ 0 → ⊥) (r : ℕ) (er : r ≡ length (recipeOf s)) where
     some' : countOf s ≡ 0 → ⊥
     some' z = some (em ∙ z)
 
-    pub reply-short : length d < r → (refusal 10 0 ≡ replied s d) × (d ≡ left s d)
-    unfolding replied left
+    pub reply-short : length d < r → (refusal 10 0 ≡ replied s d) × (d ≡ wordsAfter s d)
+    unfolding replied wordsAfter
     reply-short h =
         let k = lt-leb (length (recipeOf s)) (length d) (omega arith) in
         let z = ne-eqb (countOf s) 0 some' in
         (simp (z, k), simp (z, k))
 
-    pub reply-words : (w : ℤ) (y : List ℤ) → w ≡ pos m → r ≤ length d → y ≡ sets (set d 0 w) 1 (stepsOf s) → (wrote r ≡ replied s d) × (y ≡ left s d)
-    unfolding replied left recipeOf
+    pub reply-words : (w : ℤ) (y : List ℤ) → w ≡ pos m → r ≤ length d → y ≡ sets (set d 0 w) 1 (stepsOf s) → (wrote r ≡ replied s d) × (y ≡ wordsAfter s d)
+    unfolding replied wordsAfter recipeOf
     reply-words w y ew h ey =
         let l : length (recipeOf s) ≤ length d = omega arith in
         let k = le-leb (length (recipeOf s)) (length d) l in
@@ -46,11 +46,11 @@ module _ (s : Space) (d : List ℤ) (m : ℕ) (em : m ≡ countOf s) where
 
 -- on a page that is accepted, and on one that is refused
 module _ (page : List ℕ) (n : ℕ) (d : List ℤ) where
-  pub page-accepted : (r : Reply) (y : List ℤ) → accepted ≡ validated page → (r ≡ replied (spaceAt page n) d) × (y ≡ left (spaceAt page n) d)
-      → (r ≡ writeReply page n d) × (y ≡ writeLeft page n d)
-  unfolding writeReply writeLeft
+  pub page-accepted : (r : Reply) (y : List ℤ) → accepted ≡ validated page → (r ≡ replied (spaceAt page n) d) × (y ≡ wordsAfter (spaceAt page n) d)
+      → (r ≡ writeReply page n d) × (y ≡ writeWords page n d)
+  unfolding writeReply writeWords
   page-accepted r y e h = rw (← e) h
 
-  pub page-refused : (number block : ℕ) → refused number block ≡ validated page → (refusal number block ≡ writeReply page n d) × (d ≡ writeLeft page n d)
-  unfolding writeReply writeLeft
+  pub page-refused : (number block : ℕ) → refused number block ≡ validated page → (refusal number block ≡ writeReply page n d) × (d ≡ writeWords page n d)
+  unfolding writeReply writeWords
   page-refused number block e = rw (← e) (refl, refl)

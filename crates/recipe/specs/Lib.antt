@@ -1,4 +1,4 @@
 pub mod Recipes
-pub mod Writes
+pub mod SpaceWrites
 pub mod Parts
-pub mod Writing
+pub mod PageWrites

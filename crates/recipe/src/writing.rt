@@ -6,7 +6,7 @@ ghost use lib.Seq.{sets};
 ghost use Rattle.space.specs.Pages.{spaceAt};
 ghost use Rattle.space.specs.Levels.{spaceIn};
 ghost use Rattle.recipe.specs.Recipes.{stepsOf};
-ghost use Rattle.recipe.specs.Writes.{meaning, replied, left};
+ghost use Rattle.recipe.specs.SpaceWrites.{meaning, replied, wordsAfter};
 use crate::Written;
 use crate::parts::put_ends;
 use crate::parts::put_row;
@@ -45,7 +45,7 @@ fn put_steps(page: &[u8], l: Level, words: &mut [i32], at: usize)
 // stay as they were, and on a refusal all do.
 pub fn write_space(page: &[u8], n: u32, words: &mut [i32]) -> Written
     ensures { λ r. ⌜ meaning r ≡ replied (spaceAt (now (page .entry)) n) (now (words .entry)) ⌝ }
-    ensures { λ r. ⌜ now (words .exit) ≡ left (spaceAt (now (page .entry)) n) (now (words .entry)) ⌝ }
+    ensures { λ r. ⌜ now (words .exit) ≡ wordsAfter (spaceAt (now (page .entry)) n) (now (words .entry)) ⌝ }
 {
     let l = level_at(page, n);
     let m = count(l);

@@ -10,8 +10,8 @@ use Rattle.fixed.specs.Loops.{zeroBetween}
 use Rattle.fixed.proofs.Scans.{all-same}
 use Rattle.fixed.proofs.Totals.{total-same}
 use Rattle.record.specs.Layout.{namedTo, plain, weighed, checked}
-use Rattle.record.specs.Reading.{kindAt, ownAt, tripleAt, fourAt as fourNumbersAt, grayAt, rgbAt, labAt, separationAt, bodyBy, bodyAt}
-use Rattle.record.specs.Rules.{known, nameShown, formed}
+use Rattle.record.specs.Reading.{kindAt, ownAt, tripleAt, fourNumbersAt, grayAt, rgbAt, labAt, separationAt, bodyBy, bodyAt}
+use Rattle.record.specs.Rules.{wellLaid, nameShown, wellFormed}
 use Rattle.record.specs.declared.types.Body.{Body}
 use Rattle.record.specs.declared.types.Body.the-variants.{Free, CalGray, CalRgb, Lab, Indexed, Separation, Palette}
 use Rattle.record.proofs.Shapes.{name-same}
@@ -103,8 +103,8 @@ module _ (b c : List ℕ) (same : (k : ℕ) → k < 512 → byteAt b k ≡ byteA
   body-same = by-kind (kindAt b) ∙ ap (λ (k : ℕ). bodyBy k c) (same 0 (omega arith))
 
   -- refusal 3, but the own number
-  known-same : known b ≡ known c
-  unfolding known
+  known-same : wellLaid b ≡ wellLaid c
+  unfolding wellLaid
   known-same =
       let z : zeroBetween b (namedTo (bodyAt b)) 508 ≡ zeroBetween c (namedTo (bodyAt c)) 508 =
       ap (λ (y : Body). zeroBetween b (namedTo y) 508) body-same ∙ zero-same (namedTo (bodyAt c)) 508 (omega arith) in
@@ -115,6 +115,6 @@ module _ (b c : List ℕ) (same : (k : ℕ) → k < 512 → byteAt b k ≡ byteA
   shown-same =
       rw (same 0 (omega arith), same 7 (omega arith), name-same b c 8 8 (byteAt c 7) (λ i l. same (8 + i) (omega arith)))
 
-  pub formed-same : formed b ≡ formed c
-  unfolding formed
+  pub formed-same : wellFormed b ≡ wellFormed c
+  unfolding wellFormed
   formed-same = rw (known-same, shown-same)

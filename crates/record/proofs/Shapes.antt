@@ -16,7 +16,7 @@ use Rattle.layout.specs.Field.{padded}
 use Rattle.layout.proofs.Held.{length-padded, getD-padded, all-zero}
 use Rattle.record.specs.Reading.{kindAt, ownAt, bodyBy, runAt, bytesBy, recordAt}
 use Rattle.fixed.specs.Bytes.{blocks}
-use Rattle.record.specs.Rules.{noneZero, nameFits, known, nameShown, formed, used, named, shaped}
+use Rattle.record.specs.Rules.{noneZero, nameFits, wellLaid, nameShown, wellFormed, used, wellNamed, wellShaped}
 
 -- the name rule sees the same name at two places of two lists where the 128 bytes there agree
 pub name-same : (s t : List ℕ) (j k n : ℕ) → ((i : ℕ) → i < 128 → byteAt s (j + i) ≡ byteAt t (k + i)) → nameFits s j n ≡ nameFits t k n
@@ -68,8 +68,8 @@ no-bytes = all-zero (replicate 504 0) 0 504 (λ i l m. getD-replicate 504 i 0 0 
 -- ---- the record read shows of refusal 3 what the block shows
 
 by-kind : (b : List ℕ) (k : ℕ) → k ≤ 6
-    → cond (eqb k 5) (nameFits b 8 (byteAt b 7)) true ≡ (named (bodyBy k b) (bytesBy k b) && zeroBetween (bytesBy k b) (used (bodyBy k b)) 504)
-unfolding bodyBy bytesBy named
+    → cond (eqb k 5) (nameFits b 8 (byteAt b 7)) true ≡ (wellNamed (bodyBy k b) (bytesBy k b) && zeroBetween (bytesBy k b) (used (bodyBy k b)) 504)
+unfolding bodyBy bytesBy wellNamed
 by-kind b zero p = sym no-bytes
 by-kind b (suc zero) p = sym no-bytes
 by-kind b (suc (suc zero)) p = sym no-bytes
@@ -85,16 +85,16 @@ by-kind b (suc (suc (suc (suc (suc zero))))) p =
 by-kind b (suc (suc (suc (suc (suc (suc zero)))))) p = sym (run-zeros b 4 504)
 by-kind b (suc (suc (suc (suc (suc (suc (suc k))))))) p = absurd (omega arith)
 
-pub shown-named : (b : List ℕ) → known b ≡ true → nameShown b ≡ (named (recordAt b .body) (recordAt b .bytes) && zeroBetween (recordAt b .bytes) (used (recordAt b .body)) 504)
-unfolding known nameShown recordAt
+pub shown-named : (b : List ℕ) → wellLaid b ≡ true → nameShown b ≡ (wellNamed (recordAt b .body) (recordAt b .bytes) && zeroBetween (recordAt b .bytes) (used (recordAt b .body)) 504)
+unfolding wellLaid nameShown recordAt
 shown-named b k = by-kind b (kindAt b) (leb-true _ 6 (and-left _ _ k))
 
 -- formed, with an own number that a page can have, is known and shaped: what is tested on a page is what is tested on a block alone
-pub formed-shaped : (b : List ℕ) → (formed b && ltb (ownAt b) blocks) ≡ (known b && shaped (recordAt b))
-unfolding formed shaped recordAt
+pub formed-shaped : (b : List ℕ) → (wellFormed b && ltb (ownAt b) blocks) ≡ (wellLaid b && wellShaped (recordAt b))
+unfolding wellFormed wellShaped recordAt
 formed-shaped b =
-    moved (known b) (nameShown b) (ltb (ownAt b) blocks)
-    ∙ and-same (known b) (λ k. ap (λ (t : Bool). ltb (ownAt b) blocks && t) (shown-named b k))
+    moved (wellLaid b) (nameShown b) (ltb (ownAt b) blocks)
+    ∙ and-same (wellLaid b) (λ k. ap (λ (t : Bool). ltb (ownAt b) blocks && t) (shown-named b k))
   where
     moved : (a n o : Bool) → ((a && n) && o) ≡ (a && (o && n))
     moved true true true = refl

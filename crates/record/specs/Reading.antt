@@ -33,8 +33,8 @@ abbrev pub rangesAt : List ℕ → ℕ → Ranges
 rangesAt b at =
     record { amin = numberAt b at; amax = numberAt b (at + 4); bmin = numberAt b (at + 8); bmax = numberAt b (at + 12) }
 
-abbrev pub fourAt : List ℕ → ℕ → Four
-fourAt b at = record { a = numberAt b at; b = numberAt b (at + 4); c = numberAt b (at + 8); d = numberAt b (at + 12) }
+abbrev pub fourNumbersAt : List ℕ → ℕ → Four
+fourNumbersAt b at = record { a = numberAt b at; b = numberAt b (at + 4); c = numberAt b (at + 8); d = numberAt b (at + 12) }
 
 -- white 4, black 16, gamma 28
 abbrev pub grayAt : List ℕ → GraySpace
@@ -59,7 +59,7 @@ labAt b = record { white = tripleAt b 4; black = tripleAt b 16; range = rangesAt
 -- alternate 4, exponent 6, name length 7, C0 136, C1 152
 abbrev pub separationAt : List ℕ → Ink
 separationAt b =
-    record { alternate = twoAt b 4; exponent = byteAt b 6; «name_len» = byteAt b 7; c0 = fourAt b 136; c1 = fourAt b 152 }
+    record { alternate = twoAt b 4; exponent = byteAt b 6; «name_len» = byteAt b 7; c0 = fourNumbersAt b 136; c1 = fourNumbersAt b 152 }
 
 -- the body of a block of kind k: base 4 and hival 6 of an Indexed one; an unknown kind is read as free
 unfoldable pub bodyBy : ℕ → List ℕ → Body

@@ -38,16 +38,16 @@ nameFits s start count =
     leb 1 count && (leb count 127 && (noneZero s start (start + count) && zeroBetween s (start + count) (start + 128)))
 
 -- of a block: a known kind, byte 1 zero, and zeros where the body names no byte
-unfoldable pub known : List ℕ → Bool
-known b = leb (kindAt b) 6 && (eqb (byteAt b 1) 0 && zeroBetween b (namedTo (bodyAt b)) 508)
+unfoldable pub wellLaid : List ℕ → Bool
+wellLaid b = leb (kindAt b) 6 && (eqb (byteAt b 1) 0 && zeroBetween b (namedTo (bodyAt b)) 508)
 
 -- the name of a Separation, which stands at byte 8 with its length in byte 7
 unfoldable pub nameShown : List ℕ → Bool
 nameShown b = cond (eqb (kindAt b) 5) (nameFits b 8 (byteAt b 7)) true
 
 -- all of refusal 3 that one block shows, but its own number
-unfoldable pub formed : List ℕ → Bool
-formed b = known b && nameShown b
+unfoldable pub wellFormed : List ℕ → Bool
+wellFormed b = wellLaid b && nameShown b
 
 -- of a record: how many places of its room are used, and the name in it
 abbrev pub used : Body → ℕ
@@ -59,18 +59,18 @@ used (Indexed base hival) = 0
 used (Separation p) = 128
 used Palette = room
 
-unfoldable pub named : Body → List ℕ → Bool
-named Free s = true
-named (CalGray g) s = true
-named (CalRgb g) s = true
-named (Lab g) s = true
-named (Indexed base hival) s = true
-named (Separation p) s = nameFits s 0 (p .«name_len»)
-named Palette s = true
+unfoldable pub wellNamed : Body → List ℕ → Bool
+wellNamed Free s = true
+wellNamed (CalGray g) s = true
+wellNamed (CalRgb g) s = true
+wellNamed (Lab g) s = true
+wellNamed (Indexed base hival) s = true
+wellNamed (Separation p) s = nameFits s 0 (p .«name_len»)
+wellNamed Palette s = true
 
 -- an own number that a page can have, a name that fits, and zeros where the room is not used
-unfoldable pub shaped : Record → Bool
-shaped r = ltb (r .own) blocks && (named (r .body) (r .bytes) && zeroBetween (r .bytes) (used (r .body)) room)
+unfoldable pub wellShaped : Record → Bool
+wellShaped r = ltb (r .own) blocks && (wellNamed (r .body) (r .bytes) && zeroBetween (r .bytes) (used (r .body)) room)
 
 -- ---- 4: a number breaks a clause rule
 
@@ -142,8 +142,8 @@ entriesEnd q m = allBetween (λ k. isZero (value (entriesOf q) k)) m 4
 -- ---- the first of 3, 4, 5, 6 that a record meets, or 0
 
 unfoldable pub faultOf : Record → ℕ
-faultOf r = unless (shaped r) 3 (unless (lawful (r .body)) 4 (unless (supported (r .body)) 5 (unless (refers (r .body)) 6 0)))
+faultOf r = unless (wellShaped r) 3 (unless (lawful (r .body)) 4 (unless (supported (r .body)) 5 (unless (refers (r .body)) 6 0)))
 
 -- and the same of a block: what no record can show, its kind and the bytes that are not named, is looked at first, and it is 3
 unfoldable pub faultAt : List ℕ → ℕ
-faultAt b = unless (known b) 3 (faultOf (recordAt b))
+faultAt b = unless (wellLaid b) 3 (faultOf (recordAt b))

@@ -5,8 +5,8 @@ ghost use lib.ListN.{length};
 ghost use Rattle.fixed.specs.Bytes.{blockAt};
 ghost use Rattle.record.specs.Layout.{plain, weighed, checked};
 ghost use Rattle.record.specs.Columns.{columnSum, columnRunning};
-use fixed::byte;
-use fixed::two;
+use fixed::byte_at;
+use fixed::two_at;
 
 // The two sums, modulo 65535: `plain` adds the bytes up as they are, `weighed` adds up byte i times 508 - i.
 pub struct Sums {
@@ -58,10 +58,10 @@ pub fn sum_up(page: &[u8], n: u32) -> Sums
         over += (k as u32 + 4) * s;
         k += 1;
     }
-    let a = byte(page, n, 508);
-    let b = byte(page, n, 509);
-    let c = byte(page, n, 510);
-    let d = byte(page, n, 511);
+    let a = byte_at(page, n, 508);
+    let b = byte_at(page, n, 509);
+    let c = byte_at(page, n, 510);
+    let d = byte_at(page, n, 511);
     Sums {
         plain: (sum - (a + b + c + d)) % 65535,
         weighed: (32 * running + b + 2 * c + 3 * d - over) % 65535,
@@ -76,5 +76,5 @@ pub fn is_checked(page: &[u8], n: u32) -> bool
     let s = sum_up(page, n);
     let p = s.plain;
     let w = s.weighed;
-    (two(page, n, 508) == p) & (two(page, n, 510) == w)
+    (two_at(page, n, 508) == p) & (two_at(page, n, 510) == w)
 }

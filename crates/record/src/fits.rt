@@ -1,7 +1,7 @@
 // What holds of every record because of its type alone: 504 bytes of room, and each number in the range of its type. These functions do nothing;
 // a caller learns from them what its record's type says.
 ghost use mathlib.Core.List.{[]};
-ghost use Rattle.layout.specs.Field.{InRanges};
+ghost use Rattle.layout.specs.Field.{FieldsFit};
 ghost use Rattle.record.specs.Layout.{body};
 ghost use Rattle.record.specs.Fits.{Fits};
 use crate::types::Body;
@@ -12,27 +12,27 @@ use crate::types::Record;
 use crate::types::Separation;
 
 fn gray_fits(g: CalGray)
-    ensures { λ _. ⌜ InRanges (body (Body.CalGray g) []) ⌝ }
+    ensures { λ _. ⌜ FieldsFit (body (Body.CalGray g) []) ⌝ }
 {}
 
 fn rgb_fits(g: CalRgb)
-    ensures { λ _. ⌜ InRanges (body (Body.CalRgb g) []) ⌝ }
+    ensures { λ _. ⌜ FieldsFit (body (Body.CalRgb g) []) ⌝ }
 {}
 
 fn lab_fits(g: Lab)
-    ensures { λ _. ⌜ InRanges (body (Body.Lab g) []) ⌝ }
+    ensures { λ _. ⌜ FieldsFit (body (Body.Lab g) []) ⌝ }
 {}
 
 fn indexed_fits(base: u16, hival: u16)
-    ensures { λ _. ⌜ InRanges (body (Body.Indexed base hival) []) ⌝ }
+    ensures { λ _. ⌜ FieldsFit (body (Body.Indexed base hival) []) ⌝ }
 {}
 
 fn separation_fits(p: Separation)
-    ensures { λ _. ⌜ InRanges (body (Body.Separation p) []) ⌝ }
+    ensures { λ _. ⌜ FieldsFit (body (Body.Separation p) []) ⌝ }
 {}
 
 fn body_fits(y: Body)
-    ensures { λ _. ⌜ InRanges (body y []) ⌝ }
+    ensures { λ _. ⌜ FieldsFit (body y []) ⌝ }
 {
     match y {
         Body::Free => {}

@@ -2,7 +2,7 @@
 ghost use mathlib.Core.Path.{_≡_};
 ghost use Prim.Native.Nat.{_<_, _≤_};
 ghost use Rattle.fixed.specs.Bytes.{blockAt, twoAt};
-ghost use Rattle.record.specs.Reading.{kindAt, tripleAt, rangesAt, fourAt, grayAt, rgbAt, labAt, separationAt, ownAt, bodyAt, runAt, bytesBy, paletteAt, recordAt};
+ghost use Rattle.record.specs.Reading.{kindAt, tripleAt, rangesAt, fourNumbersAt, grayAt, rgbAt, labAt, separationAt, ownAt, bodyAt, runAt, bytesBy, paletteAt, recordAt};
 ghost use Rattle.record.specs.Layout.{room, entriesOf};
 ghost use Rattle.record.specs.Rules.{isPalette};
 use crate::types::Body;
@@ -15,28 +15,28 @@ use crate::types::Ranges;
 use crate::types::Record;
 use crate::types::Separation;
 use crate::types::Triple;
-use fixed::byte;
-use fixed::number;
-use fixed::two;
+use fixed::byte_at;
+use fixed::number_at;
+use fixed::two_at;
 
 fn triple_at(page: &[u8], n: u32, at: u32) -> Triple
     requires { ⌜ at < 500 ⌝ }
     ensures { λ r. ⌜ r ≡ tripleAt (blockAt (now (page .entry)) n) at ⌝ }
 {
-    let x = number(page, n, at);
-    let y = number(page, n, at + 4);
-    let z = number(page, n, at + 8);
+    let x = number_at(page, n, at);
+    let y = number_at(page, n, at + 4);
+    let z = number_at(page, n, at + 8);
     Triple { x, y, z }
 }
 
 fn four_at(page: &[u8], n: u32, at: u32) -> Four
     requires { ⌜ at < 500 ⌝ }
-    ensures { λ r. ⌜ r ≡ fourAt (blockAt (now (page .entry)) n) at ⌝ }
+    ensures { λ r. ⌜ r ≡ fourNumbersAt (blockAt (now (page .entry)) n) at ⌝ }
 {
-    let a = number(page, n, at);
-    let b = number(page, n, at + 4);
-    let c = number(page, n, at + 8);
-    let d = number(page, n, at + 12);
+    let a = number_at(page, n, at);
+    let b = number_at(page, n, at + 4);
+    let c = number_at(page, n, at + 8);
+    let d = number_at(page, n, at + 12);
     Four { a, b, c, d }
 }
 
@@ -59,7 +59,7 @@ fn gray_at(page: &[u8], n: u32) -> CalGray
 {
     let white = triple_at(page, n, 4);
     let black = triple_at(page, n, 16);
-    let gamma = number(page, n, 28);
+    let gamma = number_at(page, n, 28);
     CalGray {
         white,
         black,
@@ -102,17 +102,17 @@ fn lab_at(page: &[u8], n: u32) -> Lab
 fn indexed_at(page: &[u8], n: u32) -> Body
     ensures { λ r. ⌜ r ≡ Body.Indexed (twoAt (blockAt (now (page .entry)) n) 4) (twoAt (blockAt (now (page .entry)) n) 6) ⌝ }
 {
-    let base = two(page, n, 4) as u16;
-    let hival = two(page, n, 6) as u16;
+    let base = two_at(page, n, 4) as u16;
+    let hival = two_at(page, n, 6) as u16;
     Body::Indexed { base, hival }
 }
 
 fn separation_at(page: &[u8], n: u32) -> Separation
     ensures { λ r. ⌜ r ≡ separationAt (blockAt (now (page .entry)) n) ⌝ }
 {
-    let alternate = two(page, n, 4) as u16;
-    let exponent = byte(page, n, 6) as u8;
-    let name_len = byte(page, n, 7) as u8;
+    let alternate = two_at(page, n, 4) as u16;
+    let exponent = byte_at(page, n, 6) as u8;
+    let name_len = byte_at(page, n, 7) as u8;
     let c0 = four_at(page, n, 136);
     let c1 = four_at(page, n, 152);
     Separation {
@@ -135,14 +135,14 @@ pub fn entries_of(q: Four) -> [i32; 4]
 pub fn kind_at(page: &[u8], n: u32) -> u32
     ensures { λ r. ⌜ r ≡ kindAt (blockAt (now (page .entry)) n) ⌝ }
 {
-    byte(page, n, 0)
+    byte_at(page, n, 0)
 }
 
 // Whether block n is a palette block.
 pub fn is_palette(page: &[u8], n: u32) -> bool
     ensures { λ r. ⌜ r ≡ isPalette (bodyAt (blockAt (now (page .entry)) n)) ⌝ }
 {
-    byte(page, n, 0) == 6
+    byte_at(page, n, 0) == 6
 }
 
 // Byte k of the part of a palette in block n.
@@ -151,21 +151,21 @@ pub fn palette_at(page: &[u8], n: u32, k: u32) -> u32
     ensures is { λ r. ⌜ r ≡ paletteAt (blockAt (now (page .entry)) n) k ⌝ }
     ensures small { λ r. ⌜ r ≤ 255 ⌝ }
 {
-    byte(page, n, 4 + k)
+    byte_at(page, n, 4 + k)
 }
 
 // The number that block n gives itself.
 pub fn own_at(page: &[u8], n: u32) -> u16
     ensures { λ r. ⌜ r ≡ ownAt (blockAt (now (page .entry)) n) ⌝ }
 {
-    two(page, n, 2) as u16
+    two_at(page, n, 2) as u16
 }
 
 // The body of block n, read as its kind says; an unknown kind is read as free.
 pub fn body_at(page: &[u8], n: u32) -> Body
     ensures { λ r. ⌜ r ≡ bodyAt (blockAt (now (page .entry)) n) ⌝ }
 {
-    let kind = byte(page, n, 0);
+    let kind = byte_at(page, n, 0);
     match kind {
         1 => Body::CalGray(gray_at(page, n)),
         2 => Body::CalRgb(rgb_at(page, n)),
@@ -184,7 +184,7 @@ fn run_at(page: &[u8], n: u32, at: u32, count: u32) -> [u8; 504]
     let mut bytes = [0u8; 504];
     let mut i: u32 = 0;
     while i < count {
-        bytes[i as usize] = byte(page, n, at + i) as u8;
+        bytes[i as usize] = byte_at(page, n, at + i) as u8;
         i += 1;
     }
     bytes
@@ -206,7 +206,7 @@ fn bytes_at(page: &[u8], n: u32, kind: u32) -> [u8; 504]
 pub fn record_at(page: &[u8], n: u32) -> Record
     ensures { λ r. ⌜ r ≡ recordAt (blockAt (now (page .entry)) n) ⌝ }
 {
-    let kind = byte(page, n, 0);
+    let kind = byte_at(page, n, 0);
     let own = own_at(page, n);
     let body = body_at(page, n);
     let bytes = bytes_at(page, n, kind);

@@ -5,7 +5,7 @@ ghost use lib.IntN.{pos};
 ghost use lib.Signed.{ltZ};
 ghost use Rattle.fixed.specs.Numbers.{gammaSupported};
 ghost use Rattle.record.specs.Rules.{whitePoint, blackPoint, ordered, lawful, supported, refers, faultOf};
-use crate::shape::is_shaped;
+use crate::shape::is_well_shaped;
 use crate::types::Body;
 use crate::types::CalGray;
 use crate::types::CalRgb;
@@ -126,7 +126,7 @@ pub fn fault(r: Record) -> u32
     ensures { λ n. ⌜ n ≡ faultOf r ⌝ }
 {
     let y = r.body;
-    let shaped = is_shaped(r);
+    let shaped = is_well_shaped(r);
     let lawful = is_lawful(y);
     let supported = is_supported(y);
     let refers = is_referring(y);

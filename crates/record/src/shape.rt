@@ -7,12 +7,12 @@ ghost use Rattle.fixed.specs.Bytes.{blockAt};
 ghost use Rattle.fixed.specs.Loops.{zeroBetween};
 ghost use Rattle.record.specs.Layout.{namedTo};
 ghost use Rattle.record.specs.Reading.{bodyBy};
-ghost use Rattle.record.specs.Rules.{noneZero, nameFits, known, nameShown, formed, used, named, shaped};
+ghost use Rattle.record.specs.Rules.{noneZero, nameFits, wellLaid, nameShown, wellFormed, used, wellNamed, wellShaped};
 use crate::types::Body;
 use crate::types::NUMBERS;
 use crate::types::ROOM;
 use crate::types::Record;
-use fixed::byte;
+use fixed::byte_at;
 
 // Whether the bytes from `from` to below `to` of block n, which the page has, are zero: it looks at each of them.
 fn all_zero(page: &[u8], n: u32, from: u32, to: u32) -> bool
@@ -37,7 +37,7 @@ fn scan_zero(page: &[u8], n: u32, from: u32, to: u32) -> bool
 {
     let mut k = from;
     while k < to {
-        if byte(page, n, k) != 0 {
+        if byte_at(page, n, k) != 0 {
             return false;
         }
         k += 1;
@@ -62,7 +62,7 @@ fn none_zero(page: &[u8], n: u32, from: u32, to: u32) -> bool
 {
     let mut k = from;
     while k < to {
-        if byte(page, n, k) == 0 {
+        if byte_at(page, n, k) == 0 {
             return false;
         }
         k += 1;
@@ -95,28 +95,28 @@ fn named_to(kind: u32) -> u32
 }
 
 // Whether block n has a known kind, and zeros in byte 1 and where its body names no byte.
-pub fn is_known(page: &[u8], n: u32) -> bool
-    ensures { λ r. ⌜ r ≡ known (blockAt (now (page .entry)) n) ⌝ }
+pub fn is_well_laid(page: &[u8], n: u32) -> bool
+    ensures { λ r. ⌜ r ≡ wellLaid (blockAt (now (page .entry)) n) ⌝ }
 {
-    let kind = byte(page, n, 0);
+    let kind = byte_at(page, n, 0);
     let to = named_to(kind);
-    (kind <= 6) & ((byte(page, n, 1) == 0) & zero_between(page, n, to, 508))
+    (kind <= 6) & ((byte_at(page, n, 1) == 0) & zero_between(page, n, to, 508))
 }
 
 fn is_name_shown(page: &[u8], n: u32) -> bool
     ensures { λ r. ⌜ r ≡ nameShown (blockAt (now (page .entry)) n) ⌝ }
 {
-    if byte(page, n, 0) == 5 {
-        return name_fits(page, n, 8, byte(page, n, 7));
+    if byte_at(page, n, 0) == 5 {
+        return name_fits(page, n, 8, byte_at(page, n, 7));
     }
     true
 }
 
 // Whether block n shows nothing of refusal 3, its own number aside.
-pub fn is_formed(page: &[u8], n: u32) -> bool
-    ensures { λ r. ⌜ r ≡ formed (blockAt (now (page .entry)) n) ⌝ }
+pub fn is_well_formed(page: &[u8], n: u32) -> bool
+    ensures { λ r. ⌜ r ≡ wellFormed (blockAt (now (page .entry)) n) ⌝ }
 {
-    is_known(page, n) & is_name_shown(page, n)
+    is_well_laid(page, n) & is_name_shown(page, n)
 }
 
 fn used_of(y: Body) -> u32
@@ -133,8 +133,8 @@ fn used_of(y: Body) -> u32
     }
 }
 
-fn is_named(y: Body, s: &[u8]) -> bool
-    ensures { λ r. ⌜ r ≡ named y (now (s .entry)) ⌝ }
+fn is_well_named(y: Body, s: &[u8]) -> bool
+    ensures { λ r. ⌜ r ≡ wellNamed y (now (s .entry)) ⌝ }
 {
     match y {
         Body::Free => true,
@@ -148,11 +148,11 @@ fn is_named(y: Body, s: &[u8]) -> bool
 }
 
 // Whether a record shows nothing of refusal 3.
-pub fn is_shaped(r: Record) -> bool
-    ensures { λ t. ⌜ t ≡ shaped r ⌝ }
+pub fn is_well_shaped(r: Record) -> bool
+    ensures { λ t. ⌜ t ≡ wellShaped r ⌝ }
 {
     let y = r.body;
     let s = r.bytes;
     let from = used_of(y);
-    (r.own < NUMBERS) & (is_named(y, &s) & zero_between(&s, 0, from, ROOM))
+    (r.own < NUMBERS) & (is_well_named(y, &s) & zero_between(&s, 0, from, ROOM))
 }

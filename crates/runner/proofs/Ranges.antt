@@ -13,7 +13,7 @@ use Rattle.fixed.specs.Numbers.{greatest, exponentSupported}
 use Rattle.fixed.specs.Values.{value, smallOf, places}
 use Rattle.fixed.proofs.Decide.{and-left, and-right}
 use Rattle.runner.specs.Steps.{fills}
-use Rattle.runner.specs.Ranges.{InRange}
+use Rattle.runner.specs.Ranges.{Bounded}
 use Rattle.runner.specs.declared.Step.the-variants.{Row, Tint}
 
 -- a number of 1 to top
@@ -23,12 +23,12 @@ low m top e = leb-true 1 m (and-left (leb 1 m) (leb m top) e)
 high : (m top : ℕ) → (leb 1 m && leb m top) ≡ true → m ≤ top
 high m top e = leb-true m top (and-right (leb 1 m) (leb m top) e)
 
-pub row-range : (m h : ℕ) → (fills m && leb h 255) ≡ true → InRange (Row m h)
+pub row-range : (m h : ℕ) → (fills m && leb h 255) ≡ true → Bounded (Row m h)
 row-range m h e =
     let f = and-left (fills m) (leb h 255) e in
     (low m places f, high m places f, leb-true h 255 (and-right (fills m) (leb h 255) e))
 
-pub tint-range : (x m : ℕ) → (exponentSupported x && fills m) ≡ true → InRange (Tint x m)
+pub tint-range : (x m : ℕ) → (exponentSupported x && fills m) ≡ true → Bounded (Tint x m)
 tint-range x m e =
     let f = and-left (exponentSupported x) (fills m) e in
     let g = and-right (exponentSupported x) (fills m) e in

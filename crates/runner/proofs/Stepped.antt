@@ -19,8 +19,8 @@ use Rattle.cie.specs.Answers.{Reply, refusal}
 use Rattle.cie.specs.declared.Closing.{Closing}
 use Rattle.cie.specs.declared.Closing.the-variants.{Gray, Rgb, Cmyk, CalGray, CalRgb, Lab}
 use Rattle.runner.specs.Steps.{fills, limitRead, rowRead, tintRead, closeRead, grayWords, grayRead, rgbWords, rgbRead, labWords, stepBy, stepOf}
-use Rattle.runner.specs.Ranges.{InRange}
-use Rattle.runner.specs.Runs.{Turn, done, more, ended, stepped, acted, goes, runs}
+use Rattle.runner.specs.Ranges.{Bounded}
+use Rattle.runner.specs.Runs.{Turn, done, more, ended, stepped, turnOf, runsAfter, runs}
 use Rattle.runner.proofs.Ranges.{row-range, tint-range}
 use Rattle.runner.specs.declared.Step.{Step}
 use Rattle.runner.specs.declared.Step.the-variants.{Limit, Row, Tint, Close}
@@ -31,7 +31,7 @@ use Rattle.runner.specs.declared.Read.the-variants.{At, Nothing}
 
 abbrev pub Sound : List ℤ → Read → Type 0
 Sound l Nothing = Unit {0}
-Sound l (At s n) = (1 ≤ n) × (n ≤ length l) × InRange s
+Sound l (At s n) = (1 ≤ n) × (n ≤ length l) × Bounded s
 
 -- the same as a record, so that what was read is found
 record Fine (l : List ℤ) (r : Read) : Type 0 where
@@ -40,10 +40,10 @@ record Fine (l : List ℤ) (r : Read) : Type 0 where
 nothing : (l : List ℤ) → Fine l Nothing
 nothing l = record { sound = tt }
 
-at : (l : List ℤ) (s : Step) (n : ℕ) → 1 ≤ n → n ≤ length l → InRange s → Fine l (At s n)
+at : (l : List ℤ) (s : Step) (n : ℕ) → 1 ≤ n → n ≤ length l → Bounded s → Fine l (At s n)
 at l s n h k i = record { sound = (h, k, i) }
 
-unless : (l : List ℤ) (s : Step) (n : ℕ) → 1 ≤ n → InRange s → Fine l (cond (ltb (length l) n) Nothing (At s n))
+unless : (l : List ℤ) (s : Step) (n : ℕ) → 1 ≤ n → Bounded s → Fine l (cond (ltb (length l) n) Nothing (At s n))
 unless l s n h i = cond-ind (Fine l) (ltb (length l) n) (λ _. nothing l) (λ e. at l s n h (ltb-false _ _ e) i)
 
 limit-sound : (l : List ℤ) → Fine l (limitRead l)
@@ -103,8 +103,8 @@ step-sound l = by-sound (smallOf (value l 0)) l .sound
 -- ---- a run and its first step
 
 -- words that are passed over are dropped
-go-drop : (n c : ℕ) (l : List ℤ) (k : ℕ) (v : List ℤ) → goes n c l k v ≡ runs n c (drop k l) v
-unfolding goes
+go-drop : (n c : ℕ) (l : List ℤ) (k : ℕ) (v : List ℤ) → runsAfter n c l k v ≡ runs n c (drop k l) v
+unfolding runsAfter
 go-drop n c [] zero v = refl
 go-drop n c [] (suc k) v = refl
 go-drop n c (w ∷ ws) zero v = refl
@@ -117,33 +117,33 @@ after n c l size (more u) = runs n c (drop size l) u
 
 abbrev pub begins : ℕ → ℕ → List ℤ → List ℤ → Read → Reply
 begins n c l v Nothing = refusal 11 0
-begins n c l v (At s size) = after n c l size (acted l n c v size s)
+begins n c l v (At s size) = after n c l size (turnOf l n c v size s)
 
 turn-is : (n c : ℕ) (w : ℤ) (ws : List ℤ) (size : ℕ) (t : Turn) → 1 ≤ size
-    → elim t [ done r ↦ r | more u ↦ goes n c ws (pred size) u ] ≡ after n c (w ∷ ws) size t
+    → elim t [ done r ↦ r | more u ↦ runsAfter n c ws (pred size) u ] ≡ after n c (w ∷ ws) size t
 turn-is n c w ws size (done r) h = refl
 turn-is n c w ws zero (more u) h = absurd (omega arith)
 turn-is n c w ws (suc k) (more u) h = go-drop n c ws k u
 
 read-is : (n c : ℕ) (w : ℤ) (ws : List ℤ) (v : List ℤ) (r : Read) → Sound (w ∷ ws) r
-    → elim r [ At s size ↦ elim (acted (w ∷ ws) n c v size s) [ done r ↦ r | more u ↦ goes n c ws (pred size) u ] | Nothing ↦ refusal 11 0 ]
+    → elim r [ At s size ↦ elim (turnOf (w ∷ ws) n c v size s) [ done r ↦ r | more u ↦ runsAfter n c ws (pred size) u ] | Nothing ↦ refusal 11 0 ]
     ≡ begins n c (w ∷ ws) v r
 read-is n c w ws v Nothing h = refl
-read-is n c w ws v (At s size) h = turn-is n c w ws size (acted (w ∷ ws) n c v size s) (h .0)
+read-is n c w ws v (At s size) h = turn-is n c w ws size (turnOf (w ∷ ws) n c v size s) (h .0)
 
 -- a run is its first step, and the run of what follows
 pub runs-step : (n c : ℕ) (l v : List ℤ) → runs n c l v ≡ begins n c l v (stepOf l)
-unfolding goes stepBy
+unfolding runsAfter stepBy
 runs-step n c [] v = refl
 runs-step n c (w ∷ ws) v = read-is n c w ws v (stepOf (w ∷ ws)) (step-sound (w ∷ ws))
 
 -- a run whose first step is known
-pub begun : (n c : ℕ) (l v : List ℤ) {s : Step} {k : ℕ} → stepOf l ≡ At s k → runs n c l v ≡ after n c l k (acted l n c v k s)
+pub begun : (n c : ℕ) (l v : List ℤ) {s : Step} {k : ℕ} → stepOf l ≡ At s k → runs n c l v ≡ after n c l k (turnOf l n c v k s)
 begun n c l v e = runs-step n c l v ∙ ap (begins n c l v) e
 
 -- a step that does not close leaves the values `stepped`
 open-step : (n c : ℕ) (l v : List ℤ) (size : ℕ) (s : Step) → ((k : Closing) → s ≡ Close k → ⊥)
-    → after n c l size (acted l n c v size s) ≡ runs n c (drop size l) (stepped l v s)
+    → after n c l size (turnOf l n c v size s) ≡ runs n c (drop size l) (stepped l v s)
 open-step n c l v size (Limit k lo hi) isnt = refl
 open-step n c l v size (Row m h) isnt = refl
 open-step n c l v size (Tint e m) isnt = refl
@@ -162,7 +162,7 @@ part ws at = take (length ws - at) (drop at ws)
 pub record Known (n c : ℕ) (ws : List ℤ) (at : ℕ) (v : List ℤ) (s : Step) (size : ℕ) : Type 0 where
   pub low : 1 ≤ size
   pub high : at + size ≤ length ws
-  pub range : InRange s
+  pub range : Bounded s
   pub ends : (k : Closing) → s ≡ Close k → ended (part ws at) n c k size v ≡ runs n c (drop at ws) v
   pub leaves : (u : List ℤ) → ((k : Closing) → s ≡ Close k → ⊥) → u ≡ stepped (part ws at) v s
       → runs n c (drop (at + size) ws) u ≡ runs n c (drop at ws) v
@@ -181,7 +181,7 @@ module _ (n c : ℕ) (ws : List ℤ) (at : ℕ) (v : List ℤ) {r : Read} (heard
     sound : Sound rest (At s size)
     sound = subst (Sound rest) (sym plain ∙ read) (step-sound rest)
 
-    run-is : runs n c rest v ≡ after n c rest size (acted rest n c v size s)
+    run-is : runs n c rest v ≡ after n c rest size (turnOf rest n c v size s)
     run-is = begun n c rest v (sym plain ∙ read)
 
     pub one-read : Known n c ws at v s size
@@ -191,7 +191,7 @@ module _ (n c : ℕ) (ws : List ℤ) (at : ℕ) (v : List ℤ) {r : Read} (heard
       range = sound .2;
       ends = λ k e.
           ap (λ (l : List ℤ). ended l n c k size v) (part-is ws at) ∙
-          sym (run-is ∙ ap (λ (x : Step). after n c rest size (acted rest n c v size x)) e);
+          sym (run-is ∙ ap (λ (x : Step). after n c rest size (turnOf rest n c v size x)) e);
       leaves = λ u isnt e.
           ap (λ (l : List ℤ). runs n c l u) (sym (drop-drop size at ws)) ∙
           (ap (runs n c (drop size rest)) (e ∙ ap (λ (l : List ℤ). stepped l v s) (part-is ws at)) ∙

@@ -6,8 +6,8 @@ use Rattle.runner.specs.declared.Step.{Step}
 use Rattle.runner.specs.declared.Step.the-variants.{Limit, Row, Tint, Close}
 
 -- k 0..3; m 1..4 and h 0..255; e and m 1..4
-abbrev pub InRange : Step → Type 0
-InRange (Limit k lo hi) = k < places
-InRange (Row m h) = (1 ≤ m) × (m ≤ places) × (h ≤ 255)
-InRange (Tint e m) = (1 ≤ e) × (e ≤ greatest) × (1 ≤ m) × (m ≤ places)
-InRange (Close k) = Unit {0}
+abbrev pub Bounded : Step → Type 0
+Bounded (Limit k lo hi) = k < places
+Bounded (Row m h) = (1 ≤ m) × (m ≤ places) × (h ≤ 255)
+Bounded (Tint e m) = (1 ≤ e) × (e ≤ greatest) × (1 ≤ m) × (m ≤ places)
+Bounded (Close k) = Unit {0}

@@ -35,25 +35,25 @@ stepped l v (Tint e m) = tintStep e m (drop 3 l) (drop (3 + m) l) v
 stepped l v (Close k) = v
 
 -- one step, whose words stand at the front of l
-abbrev pub acted : List ℤ → ℕ → ℕ → List ℤ → ℕ → Step → Turn
-acted l n c v size (Limit k lo hi) = more (stepped l v (Limit k lo hi))
-acted l n c v size (Row m h) = more (stepped l v (Row m h))
-acted l n c v size (Tint e m) = more (stepped l v (Tint e m))
-acted l n c v size (Close k) = done (ended l n c k size v)
+abbrev pub turnOf : List ℤ → ℕ → ℕ → List ℤ → ℕ → Step → Turn
+turnOf l n c v size (Limit k lo hi) = more (stepped l v (Limit k lo hi))
+turnOf l n c v size (Row m h) = more (stepped l v (Row m h))
+turnOf l n c v size (Tint e m) = more (stepped l v (Tint e m))
+turnOf l n c v size (Close k) = done (ended l n c k size v)
 
 -- the steps after k words that are passed over; 11 where none is read
-unfoldable pub goes : ℕ → ℕ → List ℤ → ℕ → List ℤ → Reply
-goes n c [] k v = refusal 11 0
-goes n c (w ∷ ws) (suc k) v = goes n c ws k v
-goes n c (w ∷ ws) zero v =
+unfoldable pub runsAfter : ℕ → ℕ → List ℤ → ℕ → List ℤ → Reply
+runsAfter n c [] k v = refusal 11 0
+runsAfter n c (w ∷ ws) (suc k) v = runsAfter n c ws k v
+runsAfter n c (w ∷ ws) zero v =
     elim (stepOf (w ∷ ws)) [
-      | At s size ↦ elim (acted (w ∷ ws) n c v size s) [ done r ↦ r | more u ↦ goes n c ws (pred size) u ]
+      | At s size ↦ elim (turnOf (w ∷ ws) n c v size s) [ done r ↦ r | more u ↦ runsAfter n c ws (pred size) u ]
       | Nothing ↦ refusal 11 0
     ]
 
 -- the steps that stand in l, from values v on
 abbrev pub runs : ℕ → ℕ → List ℤ → List ℤ → Reply
-runs n c l v = goes n c l 0 v
+runs n c l v = runsAfter n c l 0 v
 
 -- the input count, then the steps
 abbrev pub counted : ℕ → List ℤ → List ℤ → Reply

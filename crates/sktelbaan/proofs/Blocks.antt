@@ -11,7 +11,7 @@ use lib.ListN.{length}
 use Rattle.record.specs.Layout.{blockOf}
 use Rattle.record.specs.Reading.{recordAt}
 use Rattle.record.specs.declared.types.Record.{Record}
-use Rattle.block.specs.Whole.{Outcome, done, refused, outcomeOf, writeNumber, writeOut, readNumber, readFound}
+use Rattle.block.specs.Single.{Outcome, done, refused, outcomeOf, writeNumber, writeOut, readNumber, readFound}
 use Rattle.block.proofs.Exits.{done-zero, refused-number, found-done}
 use Rattle.sktelbaan.specs.Replies.{inHalves}
 use Rattle.sktelbaan.specs.Records.{recordLike, recordOf, numbersOf, doneOf, putNumber, putBlock, gotNumbers, gotBytes}

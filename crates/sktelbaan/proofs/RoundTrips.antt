@@ -17,16 +17,16 @@ use Rattle.fixed.specs.Values.{value, smallOf, listed}
 use Rattle.fixed.proofs.Decide.{and-left, and-right, or-ind, passed}
 use Rattle.fixed.proofs.Listed.{listed-length, listed-value}
 use Rattle.fixed.proofs.Scans.{all-each}
-use Rattle.layout.specs.Field.{padded, Bytes, InRanges}
+use Rattle.layout.specs.Field.{padded, Bytes, FieldsFit}
 use Rattle.layout.proofs.Held.{length-padded}
 use Rattle.record.specs.Fits.{Fits}
 use Rattle.record.specs.Layout.{fields, kindOf, blockOf}
 use Rattle.record.specs.Reading.{recordAt}
-use Rattle.record.specs.Rules.{nameFits, named, shaped, lawful, supported, refers, faultOf}
+use Rattle.record.specs.Rules.{nameFits, wellNamed, wellShaped, lawful, supported, refers, faultOf}
 use Rattle.record.specs.declared.types.Body.{Body}
 use Rattle.record.specs.declared.types.Body.the-variants.{Free, CalGray, CalRgb, Lab, Indexed, Separation, Palette}
 use Rattle.record.specs.declared.types.Record.{Record}
-use Rattle.block.specs.Whole.{readNumber}
+use Rattle.block.specs.Single.{readNumber}
 use Rattle.block.proofs.Blocks.{fits-at}
 use Rattle.block.proofs.RoundTrips.{accepted, read-of-write, write-of-read}
 use Rattle.sktelbaan.specs.Records.{small, oneOf, twoOf, bodyOf, recordOf, bodyNumbers, headed, numbersOf, namedCount, zeroFrom, recordLike, putNumber, putBlock, gotNumbers, gotBytes}
@@ -50,7 +50,7 @@ one-kept n h = omega arith
 two-kept : (n : ℕ) → n < 65536 → min n 65535 ≡ n
 two-kept n h = omega arith
 
-body-back : (own : ℕ) (y : Body) (s : List ℕ) → InRanges (fields (record { own = own; body = y; bytes = s })) → bodyOf (kindOf y) (headed own y) ≡ y
+body-back : (own : ℕ) (y : Body) (s : List ℕ) → FieldsFit (fields (record { own = own; body = y; bytes = s })) → bodyOf (kindOf y) (headed own y) ≡ y
 unfolding bodyOf
 body-back own Free s h = refl
 body-back own (CalGray g) s h = refl
@@ -118,7 +118,7 @@ reference-small n e =
 
 -- what no refusal of a record says
 record Faultless (r : Record) : Type 0 where
-  shapes : shaped r ≡ true
+  shapes : wellShaped r ≡ true
   laws : lawful (r .body) ≡ true
   supports : supported (r .body) ≡ true
   references : refers (r .body) ≡ true
@@ -126,7 +126,7 @@ record Faultless (r : Record) : Type 0 where
 faultless : (r : Record) → faultOf r ≡ 0 → Faultless r
 unfolding faultOf
 faultless r e =
-    let a = passed (shaped r) _ 3 (λ z. omega arith) e in
+    let a = passed (wellShaped r) _ 3 (λ z. omega arith) e in
     let b = passed (lawful (r .body)) _ 4 (λ z. omega arith) (a .1) in
     let c = passed (supported (r .body)) _ 5 (λ z. omega arith) (b .1) in
     let d = passed (refers (r .body)) _ 6 (λ z. omega arith) (c .1) in
@@ -169,9 +169,9 @@ module _ (v : List ℤ) (s : List ℕ) (p : Passed v s) where
   made = recordOf v s
 
   -- the numbers that the body names are those given
-  named-back : (k : ℕ) → k ≤ 6 → lawful (bodyOf k v) ≡ true → supported (bodyOf k v) ≡ true → refers (bodyOf k v) ≡ true → named (bodyOf k v) (padded 504 s) ≡ true
+  named-back : (k : ℕ) → k ≤ 6 → lawful (bodyOf k v) ≡ true → supported (bodyOf k v) ≡ true → refers (bodyOf k v) ≡ true → wellNamed (bodyOf k v) (padded 504 s) ≡ true
       → bodyNumbers (bodyOf k v) ≡ from2 (length (bodyNumbers (bodyOf k v)))
-  unfolding bodyOf listed lawful supported refers named nameFits
+  unfolding bodyOf listed lawful supported refers wellNamed nameFits
   named-back zero h l t r m = refl
   named-back (suc zero) h l t r m = refl
   named-back (suc (suc zero)) h l t r m = refl
@@ -210,18 +210,18 @@ module _ (v : List ℤ) (s : List ℕ) (p : Passed v s) where
 
   -- numbers that make a record, of which nothing is refused, are the numbers of that record
   numbers-back : recordLike v ≡ true → faultOf made ≡ 0 → numbersOf made ≡ v
-  unfolding recordLike recordOf shaped
+  unfolding recordLike recordOf wellShaped
   numbers-back like e =
       let f = faultless made e in
       let k = small v 1 in
       let y = bodyOf k v in
       let n = length (bodyNumbers y) in
-      let known : k ≤ 6 = leb-true k 6 (and-left _ _ like) in
+      let wellLaid : k ≤ 6 = leb-true k 6 (and-left _ _ like) in
       let below : twoOf v 0 < blocks = ltb-true (twoOf v 0) blocks (and-left _ _ (f .shapes)) in
       let own : pos (twoOf v 0) ≡ value v 0 = number-back (value v 0) 65535 (omega arith) (omega arith) in
-      let kind : pos (kindOf y) ≡ value v 1 = ap pos (kind-of k known) ∙ kind-back (value v 1) known in
+      let kind : pos (kindOf y) ≡ value v 1 = ap pos (kind-of k wellLaid) ∙ kind-back (value v 1) wellLaid in
       let name = and-left _ _ (and-right (ltb (twoOf v 0) blocks) _ (f .shapes)) in
-      let body : bodyNumbers y ≡ from2 n = named-back k known (f .laws) (f .supports) (f .references) name in
+      let body : bodyNumbers y ≡ from2 n = named-back k wellLaid (f .laws) (f .supports) (f .references) name in
       (λ i. own i ∷ kind i ∷ (body i ++ replicate (18 - n) (pos 0)))
       ∙ all-numbers n (few-named y) (and-right (leb k 6) _ like)
 
@@ -231,7 +231,7 @@ module _ (v : List ℤ) (s : List ℕ) (p : Passed v s) where
   two-small : (k : ℕ) → twoOf v k < 65536
   two-small k = omega arith
 
-  in-ranges : (own k : ℕ) → own < 65536 → k ≤ 6 → InRanges (fields (record { own = own; body = bodyOf k v; bytes = padded 504 s }))
+  in-ranges : (own k : ℕ) → own < 65536 → k ≤ 6 → FieldsFit (fields (record { own = own; body = bodyOf k v; bytes = padded 504 s }))
   unfolding bodyOf
   in-ranges own zero o h = (omega arith, (omega arith, (o, (tt, tt))))
   in-ranges own (suc zero) o h = (omega arith, (omega arith, (o, (p .signed 2, (p .signed 3, (p .signed 4, (p .signed 5, (p .signed 6, (p .signed 7, (p .signed 8, (tt, tt)))))))))))

@@ -21,7 +21,7 @@ use Rattle.record.specs.declared.types.Record.{Record}
 use Rattle.record.specs.Layout.{kindOf, blockOf}
 use Rattle.record.specs.Reading.{recordAt}
 use Rattle.record.specs.Rules.{faultOf}
-use Rattle.block.specs.Whole.{Outcome, done, refused, readNumber}
+use Rattle.block.specs.Single.{Outcome, done, refused, readNumber}
 use Rattle.sktelbaan.specs.Replies.{inHalves}
 
 -- ---- a record of numbers v and bytes s

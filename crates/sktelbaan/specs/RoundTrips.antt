@@ -8,7 +8,7 @@ use mir.Syntax.{w32}
 use mir.Val.{SFits}
 use Rattle.fixed.specs.Values.{value}
 use Rattle.layout.specs.Field.{Bytes}
-use Rattle.block.specs.Whole.{readNumber}
+use Rattle.block.specs.Single.{readNumber}
 use Rattle.sktelbaan.specs.Records.{putNumber, putBlock, gotNumbers, gotBytes}
 
 -- what C has of a record: 20 signed 32-bit numbers and 504 bytes

@@ -1,9 +1,9 @@
 // What the operations come to, as replies.
 ghost use mathlib.Core.Path.{_≡_};
-ghost use Rattle.block.specs.Whole.{meaning as blockOutcome};
+ghost use Rattle.block.specs.Single.{meaning as blockOutcome};
 ghost use Rattle.page.specs.Outcomes.{meaning as judged};
-ghost use Rattle.recipe.specs.Writes.{meaning as wrote};
-ghost use Rattle.sktelbaan.specs.Replies.{verdictOf, countOf};
+ghost use Rattle.recipe.specs.SpaceWrites.{meaning as wrote};
+ghost use Rattle.sktelbaan.specs.Replies.{verdictOf, wroteOf};
 ghost use Rattle.sktelbaan.specs.Records.{doneOf};
 use block::Reply;
 use page::Verdict;
@@ -23,7 +23,7 @@ pub fn verdict(v: Verdict) -> u64
 
 // What writing a recipe comes to, as a reply.
 pub fn count(w: Written) -> u64
-    ensures { λ r. ⌜ r ≡ countOf (wrote w) ⌝ }
+    ensures { λ r. ⌜ r ≡ wroteOf (wrote w) ⌝ }
 {
     match w {
         Written::Words(n) => halves(0, n),

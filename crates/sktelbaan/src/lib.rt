@@ -3,11 +3,11 @@
 ghost use mathlib.Core.Path.{_≡_};
 ghost use Rattle.colour.specs.Evaluating.{evaluated};
 ghost use Rattle.page.specs.Validation.{validated};
-ghost use Rattle.recipe.specs.Writing.{writeReply, writeLeft};
+ghost use Rattle.recipe.specs.PageWrites.{writeReply, writeWords};
 ghost use Rattle.runner.specs.Runs.{ran};
-ghost use Rattle.block.specs.Whole.{readNumber};
+ghost use Rattle.block.specs.Single.{readNumber};
 ghost use Rattle.sktelbaan_runner.specs.Replies.{inHalves, replyOf, floatsOf};
-ghost use Rattle.sktelbaan.specs.Replies.{verdictOf, countOf};
+ghost use Rattle.sktelbaan.specs.Replies.{verdictOf, wroteOf};
 ghost use Rattle.sktelbaan.specs.Records.{putNumber, putBlock, gotNumbers, gotBytes};
 
 mod answers;
@@ -42,8 +42,8 @@ pub extern "C" fn sktelbaan_evaluate(
 // Writes the recipe of the space at a number of a page. The reply gives its count of words; the others, and on a refusal all, stay as they were.
 #[no_mangle]
 pub extern "C" fn sktelbaan_write_recipe(page: &[u8], number: u32, words: &mut [i32]) -> u64
-    ensures { λ r. ⌜ r ≡ countOf (writeReply (now (page .entry)) number (now (words .entry))) ⌝ }
-    ensures { λ _. ⌜ now (words .exit) ≡ writeLeft (now (page .entry)) number (now (words .entry)) ⌝ }
+    ensures { λ r. ⌜ r ≡ wroteOf (writeReply (now (page .entry)) number (now (words .entry))) ⌝ }
+    ensures { λ _. ⌜ now (words .exit) ≡ writeWords (now (page .entry)) number (now (words .entry)) ⌝ }
 {
     answers::count(recipe::write(page, number, words))
 }

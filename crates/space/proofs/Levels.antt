@@ -17,7 +17,7 @@ use Rattle.record.specs.declared.types.Body.{Body}
 use Rattle.record.specs.declared.types.Body.the-variants.{Free, CalGray, CalRgb, Lab, Indexed as IndexedBody, Separation as SeparationBody, Palette}
 use Rattle.space.specs.Spaces.{Space, none, gray, rgb, cmyk, calGray, calRgb, lab, separation, indexed}
 use Rattle.space.specs.Pages.{deviceOf, numbered, plainOf, plainAt, separationOver, tintedOf, tintedAt, indexedOver, spaceOf, spaceAt}
-use Rattle.space.specs.Wholes.{rankOf}
+use Rattle.space.specs.WellMade.{rankOf}
 use Rattle.space.specs.Levels.{plainIn, spaceIn, rankIn, noRanges, nothing, levelOf, deviceClosing, levelAt}
 use Rattle.space.specs.declared.nesting.Level.{Level}
 use Rattle.space.specs.declared.nesting.Level.the-variants.{Plain, Separation, Indexed}

@@ -1,5 +1,5 @@
 pub mod Numbers
 pub mod Spaces
 pub mod Pages
-pub mod Wholes
+pub mod WellMade
 pub mod Levels

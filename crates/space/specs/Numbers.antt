@@ -5,11 +5,11 @@ use mathlib.Core.List.{List}
 use lib.Dec.{ltb, leb}
 use Rattle.fixed.specs.Bytes.{blocks, device, blockAt}
 use Rattle.record.specs.Layout.{kindOf, room}
-use Rattle.record.specs.Reading.{kindAt as blockKind, bodyAt, paletteAt}
+use Rattle.record.specs.Reading.{kindAt, bodyAt, paletteAt}
 
 -- the kind of a number: its block's, 0 past the page; a number that can be no block's is its own kind, so a device code is
-unfoldable pub kindAt : List ℕ → ℕ → ℕ
-kindAt page n = cond (ltb n blocks) (blockKind (blockAt page n)) n
+unfoldable pub kindNumbered : List ℕ → ℕ → ℕ
+kindNumbered page n = cond (ltb n blocks) (kindAt (blockAt page n)) n
 
 -- FORMAT.md, Refusals: a device code, or a block of kind 1 to 5; a number asked for that is neither meets refusal 8
 unfoldable pub asked : List ℕ → ℕ → Bool

@@ -1,7 +1,7 @@
 -- Each case of what `read` replies is a law.
 use mathlib.Core.Path.{ap}
 use denote.Ref.{now}
-use Rattle.block.specs.Whole.{meaning}
+use Rattle.block.specs.Single.{meaning}
 use Rattle.sktelbaan.proofs.Blocks.{got-done, got-refused}
 use borrow.Author.Needs.{needs}
 use Rattle.sktelbaan.proofs.sktelbaan_read_block.Statement.{statement}

@@ -1,6 +1,6 @@
 -- What writing a recipe replies, as C has it; the words are those that it leaves.
 use mathlib.Core.Path.{ap, _∙_}
-use Rattle.sktelbaan.specs.Replies.{countOf}
+use Rattle.sktelbaan.specs.Replies.{wroteOf}
 use borrow.Author.Needs.{needs}
 use Rattle.sktelbaan.proofs.sktelbaan_write_recipe.Statement.{statement}
 use Rattle.sktelbaan.proofs.sktelbaan_write_recipe.Tie as tie
@@ -15,7 +15,7 @@ same-length : tie.Need-same-length
 same-length c = search needs
 
 returns : tie.Need-returns
-returns c = (c .count .ensures ∙ ap countOf (c .before .before .write .ensures .0), c .before .before .write .ensures .1)
+returns c = (c .count .ensures ∙ ap wroteOf (c .before .before .write .ensures .0), c .before .before .write .ensures .1)
 
 pub sktelbaan-write-recipe-spec : {M : Type 1} → statement M
 sktelbaan-write-recipe-spec =

@@ -1,6 +1,6 @@
 -- `put_ranges` stores the same numbers as `put_four`, once their bits are read back.
 use mathlib.Core.Path.{_∙_}
-use Rattle.fixed.proofs.Signs.{came}
+use Rattle.fixed.proofs.Signs.{signed-within}
 use borrow.Author.Needs.{needs}
 use Rattle.block.proofs.fields.put_ranges.Statement.{statement}
 use Rattle.block.proofs.fields.put_ranges.Tie as tie
@@ -19,7 +19,7 @@ returns c =
     let q = start .args .q in
     let t = at-struct-told .struct-told .given in
     at-put-four .put-four .ensures
-    ∙ simp (came (q .amin) (t .0 .1), came (q .amax) (t .1 .0 .1), came (q .bmin) (t .1 .1 .0 .1), came (q .bmax) (t .1 .1 .1 .0 .1))
+    ∙ simp (signed-within (q .amin) (t .0 .1), signed-within (q .amax) (t .1 .0 .1), signed-within (q .bmin) (t .1 .1 .0 .1), signed-within (q .bmax) (t .1 .1 .1 .0 .1))
 
 pub put-ranges-spec : {M : Type 1} → statement M
 put-ranges-spec = tie.close (tie.spec put-four-requires same-length returns)

@@ -32,8 +32,8 @@ returns-2 c =
     let unchecked = sym (checks .is-checked .ensures) ∙ not-true _ (c .before .if2 .taken) in
     read-refused b 2 (read-unchecked b (long .if1 .left) unchecked) (λ z. omega arith) (c .refusal2 .ensures .0) (c .refusal2 .ensures .1)
 
-is-known-requires : tie.Need-is-known-requires
-is-known-requires c κs = search needs
+is-well-laid-requires : tie.Need-is-well-laid-requires
+is-well-laid-requires c κs = search needs
 
 refusal-requires-3 : tie.Need-refusal-requires-3
 refusal-requires-3 c κs = search needs
@@ -45,7 +45,7 @@ returns-3 c =
     let long = checks .before in
     let b = now (long .before .before .args .b) in
     let checked = sym (checks .is-checked .ensures) ∙ not-false _ (knows .before .if2 .left) in
-    let unknown = sym (knows .is-known .ensures) ∙ not-true _ (c .before .if3 .taken) in
+    let unknown = sym (knows .is-well-laid .ensures) ∙ not-true _ (c .before .if3 .taken) in
     read-refused b 3 (read-unknown b (long .if1 .left) checked unknown) (λ z. omega arith) (c .refusal3 .ensures .0) (c .refusal3 .ensures .1)
 
 record-at-requires : tie.Need-record-at-requires
@@ -66,8 +66,8 @@ returns-4 c =
     let long = checks .before in
     let b = now (long .before .before .args .b) in
     let checked = sym (checks .is-checked .ensures) ∙ not-false _ (knows .before .if2 .left) in
-    let known = sym (knows .is-known .ensures) ∙ not-false _ (found .before .if3 .left) in
-    let number = read-fault b (long .if1 .left) checked known ∙ ap faultOf (sym (found .record-at .ensures)) ∙ sym (faulty .fault .ensures) in
+    let wellLaid = sym (knows .is-well-laid .ensures) ∙ not-false _ (found .before .if3 .left) in
+    let number = read-fault b (long .if1 .left) checked wellLaid ∙ ap faultOf (sym (found .record-at .ensures)) ∙ sym (faulty .fault .ensures) in
     read-refused b _ number (c .before .if4 .taken) (c .refusal4 .ensures .0) (c .refusal4 .ensures .1)
 
 returns-5 : tie.Need-returns-5
@@ -79,8 +79,8 @@ returns-5 c =
     let long = checks .before in
     let b = now (long .before .before .args .b) in
     let checked = sym (checks .is-checked .ensures) ∙ not-false _ (knows .before .if2 .left) in
-    let known = sym (knows .is-known .ensures) ∙ not-false _ (found .before .if3 .left) in
-    let number = read-fault b (long .if1 .left) checked known ∙ ap faultOf (sym (found .record-at .ensures)) ∙ sym (faulty .fault .ensures) in
+    let wellLaid = sym (knows .is-well-laid .ensures) ∙ not-false _ (found .before .if3 .left) in
+    let number = read-fault b (long .if1 .left) checked wellLaid ∙ ap faultOf (sym (found .record-at .ensures)) ∙ sym (faulty .fault .ensures) in
     read-done b _ (number ∙ c .if4 .left) (found .record-at .ensures)
 
 pub read-spec : {M : Type 1} → statement M
@@ -92,7 +92,7 @@ read-spec =
     is-checked-requires
     refusal-requires-2
     returns-2
-    is-known-requires
+    is-well-laid-requires
     refusal-requires-3
     returns-3
     record-at-requires

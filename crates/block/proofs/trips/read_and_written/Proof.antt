@@ -3,7 +3,7 @@ use native.Mathlib.Omega.{arith}
 use mathlib.Core.Path.{ap}
 use denote.Ref.{now}
 use Rattle.layout.specs.Field.{Bytes}
-use Rattle.block.specs.Whole.{meaning}
+use Rattle.block.specs.Single.{meaning}
 use Rattle.block.proofs.Carried.{copy-done, copy-refused}
 use borrow.Author.Needs.{needs}
 use Rattle.block.proofs.trips.read_and_written.Statement.{statement}

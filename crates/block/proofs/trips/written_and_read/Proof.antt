@@ -2,7 +2,7 @@
 use mathlib.Core.Path.{sym, ap, _∙_}
 use Prim.Native.Nat.{ℕ}
 use lib.ListN.{replicate}
-use Rattle.block.specs.Whole.{meaning}
+use Rattle.block.specs.Single.{meaning}
 use Rattle.block.proofs.Carried.{trip-done, trip-refused}
 use lib.ListN.{length-replicate}
 use borrow.Author.Needs.{needs}

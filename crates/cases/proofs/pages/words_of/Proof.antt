@@ -21,17 +21,17 @@ same-length c = search needs
 returns : tie.Need-returns Inv-loop μ-loop
 returns c = search needs
 
-cast-number : tie.Need-cast-number Inv-loop μ-loop
-cast-number c = search needs
+cast-number-at : tie.Need-cast-number-at Inv-loop μ-loop
+cast-number-at c = search needs
 
-mul-number : tie.Need-mul-number Inv-loop μ-loop
-mul-number c = search needs
+mul-number-at : tie.Need-mul-number-at Inv-loop μ-loop
+mul-number-at c = search needs
 
-cast-number-2 : tie.Need-cast-number-2 Inv-loop μ-loop
-cast-number-2 c = search needs
+cast-number-at-2 : tie.Need-cast-number-at-2 Inv-loop μ-loop
+cast-number-at-2 c = search needs
 
-number-requires : tie.Need-number-requires Inv-loop μ-loop
-number-requires c κs = search needs
+number-at-requires : tie.Need-number-at-requires Inv-loop μ-loop
+number-at-requires c κs = search needs
 
 mul-x : tie.Need-mul-x Inv-loop μ-loop
 mul-x c = search needs
@@ -63,10 +63,10 @@ words-of-spec =
     loop-holds
     same-length
     returns
-    cast-number
-    mul-number
-    cast-number-2
-    number-requires
+    cast-number-at
+    mul-number-at
+    cast-number-at-2
+    number-at-requires
     mul-x
     slice-set-from-x
     add-i

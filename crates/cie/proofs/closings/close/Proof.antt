@@ -2,7 +2,7 @@
 use mathlib.Core.Path.{ap, _∙_}
 use mathlib.Core.List.{[], _∷_}
 use Rattle.fixed.specs.Numbers.{float}
-use Rattle.fixed.proofs.Signs.{back! }
+use Rattle.fixed.proofs.Signs.{signed-back}
 use Rattle.cie.specs.Answers.{answer, inGray, inRgb, inCmyk}
 use Rattle.cie.specs.Closings.{closed, inThree, calGrayOf, calRgbOf, calLabOf}
 use borrow.Author.Needs.{needs}
@@ -71,40 +71,44 @@ returns-2 : tie.Need-returns-2
 unfolding closed
 returns-2 c =
     rw (c .before .enum-told2 .given .1)
-    (λ i. answer inGray ((c .float-of .ensures ∙ ap float (back! (c .before .before .before .fits .a))) i ∷ []))
+    (λ i. answer inGray ((c .float-of .ensures ∙ ap float (signed-back (c .before .before .before .fits .a))) i ∷ []))
 
 returns-3 : tie.Need-returns-3
 unfolding closed
 returns-3 c =
     let f = c .before .before .before .before .before .fits in
     rw (c .before .before .before .enum-told3 .given .1)
-    (λ i. answer inRgb ((c .before .before .float-of2 .ensures ∙ ap float (back! (f .a))) i ∷ (c .before .float-of3 .ensures ∙ ap float (back! (f .b))) i ∷ (c .float-of4 .ensures ∙ ap float (back! (f .c))) i ∷ []))
+    (λ i. answer inRgb ((c .before .before .float-of2 .ensures ∙ ap float (signed-back (f .a))) i ∷ (c .before .float-of3 .ensures ∙ ap float (signed-back (f .b))) i ∷ (c .float-of4 .ensures ∙ ap float (signed-back (f .c))) i ∷ []))
 
 returns-4 : tie.Need-returns-4
 unfolding closed
 returns-4 c =
-    let f = c .before .before .before .before .before .before .fits in
-    rw (c .before .before .before .before .enum-told4 .given .1)
-    (λ i. answer inCmyk ((c .before .before .before .float-of5 .ensures ∙ ap float (back! (f .a))) i ∷ (c .before .before .float-of6 .ensures ∙ ap float (back! (f .b))) i ∷ (c .before .float-of7 .ensures ∙ ap float (back! (f .c))) i ∷ (c .float-of8 .ensures ∙ ap float (back! (f .d))) i ∷ []))
+    let after-float-of6 = c .before .before in
+    let after-float-of5 = after-float-of6 .before in
+    let after-enum-told4 = after-float-of5 .before in
+    let entry = after-enum-told4 .before .before in
+    let f = entry .fits in
+    rw (after-enum-told4 .enum-told4 .given .1)
+    (λ i. answer inCmyk ((after-float-of5 .float-of5 .ensures ∙ ap float (signed-back (f .a))) i ∷ (after-float-of6 .float-of6 .ensures ∙ ap float (signed-back (f .b))) i ∷ (c .before .float-of7 .ensures ∙ ap float (signed-back (f .c))) i ∷ (c .float-of8 .ensures ∙ ap float (signed-back (f .d))) i ∷ []))
 
 returns-5 : tie.Need-returns-5
 unfolding closed
 returns-5 c =
-    rw (c .before .before .k .given .1) (ap inThree (c .close-gray .ensures ∙ (λ i. calGrayOf (c .before .before .k .given .0 .0) (back! (c .before .before .before .before .fits .a) i))))
+    rw (c .before .before .k .given .1) (ap inThree (c .close-gray .ensures ∙ (λ i. calGrayOf (c .before .before .k .given .0 .0) (signed-back (c .before .before .before .before .fits .a) i))))
 
 returns-6 : tie.Need-returns-6
 unfolding closed
 returns-6 c =
     let f = c .before .before .before .before .fits in
     rw (c .before .before .k2 .given .1)
-    (ap inThree (c .close-rgb .ensures ∙ (λ i. calRgbOf (c .before .before .k2 .given .0 .0) (back! (f .a) i) (back! (f .b) i) (back! (f .c) i))))
+    (ap inThree (c .close-rgb .ensures ∙ (λ i. calRgbOf (c .before .before .k2 .given .0 .0) (signed-back (f .a) i) (signed-back (f .b) i) (signed-back (f .c) i))))
 
 returns-7 : tie.Need-returns-7
 unfolding closed
 returns-7 c =
     let f = c .before .before .before .before .fits in
     rw (c .before .before .k3 .given .1)
-    (ap inThree (c .close-lab .ensures ∙ (λ i. calLabOf (c .before .before .k3 .given .0 .0) (back! (f .a) i) (back! (f .b) i) (back! (f .c) i))))
+    (ap inThree (c .close-lab .ensures ∙ (λ i. calLabOf (c .before .before .k3 .given .0 .0) (signed-back (f .a) i) (signed-back (f .b) i) (signed-back (f .c) i))))
 
 pub close-spec : {M : Type 1} → statement M
 close-spec =

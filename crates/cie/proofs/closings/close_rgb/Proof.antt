@@ -1,7 +1,7 @@
 -- The matrix, and three decoded components, once the bits of their numbers are read back.
 use mathlib.Core.Path.{_∙_}
-use Rattle.fixed.proofs.Signs.{came, back! }
-use Rattle.cie.specs.Steps.{tenthsOf, decoded, matrixOf, rgbOf}
+use Rattle.fixed.proofs.Signs.{signed-within, signed-back}
+use Rattle.cie.specs.Steps.{tenthsOf, decoded, matrixOf, rgbXyz}
 use borrow.Author.Needs.{needs}
 use Rattle.cie.proofs.closings.close_rgb.Statement.{statement}
 use Rattle.cie.proofs.closings.close_rgb.Tie as tie
@@ -30,11 +30,11 @@ returns c =
     let k = told .before .args .k in
     let f = told .before .fits in
     let t = told .struct-told .given in
-    let m = nine .matrix .ensures ∙ (λ i. matrixOf (came (k .xa) (t .1 .1 .1 .0 .1) i) (came (k .ya) (t .1 .1 .1 .1 .0 .1) i) (came (k .za) (t .1 .1 .1 .1 .1 .0 .1) i) (came (k .xb) (t .1 .1 .1 .1 .1 .1 .0 .1) i) (came (k .yb) (t .1 .1 .1 .1 .1 .1 .1 .0 .1) i) (came (k .zb) (t .1 .1 .1 .1 .1 .1 .1 .1 .0 .1) i) (came (k .xc) (t .1 .1 .1 .1 .1 .1 .1 .1 .1 .0 .1) i) (came (k .yc) (t .1 .1 .1 .1 .1 .1 .1 .1 .1 .1 .0 .1) i) (came (k .zc) (t .1 .1 .1 .1 .1 .1 .1 .1 .1 .1 .1 .0 .1) i)) in
-    let a = first .decode .ensures ∙ (λ i. decoded (tenthsOf (came (k .ga) (t .0 .1) i)) (back! (f .a) i)) in
-    let b = c .before .before .before .decode2 .ensures ∙ (λ i. decoded (tenthsOf (came (k .gb) (t .1 .0 .1) i)) (back! (f .b) i)) in
-    let d = c .before .decode3 .ensures ∙ (λ i. decoded (tenthsOf (came (k .gc) (t .1 .1 .0 .1) i)) (back! (f .c) i)) in
-    c .rgb .ensures ∙ (λ i. rgbOf (m i) (a i) (b i) (d i))
+    let m = nine .matrix .ensures ∙ (λ i. matrixOf (signed-within (k .xa) (t .1 .1 .1 .0 .1) i) (signed-within (k .ya) (t .1 .1 .1 .1 .0 .1) i) (signed-within (k .za) (t .1 .1 .1 .1 .1 .0 .1) i) (signed-within (k .xb) (t .1 .1 .1 .1 .1 .1 .0 .1) i) (signed-within (k .yb) (t .1 .1 .1 .1 .1 .1 .1 .0 .1) i) (signed-within (k .zb) (t .1 .1 .1 .1 .1 .1 .1 .1 .0 .1) i) (signed-within (k .xc) (t .1 .1 .1 .1 .1 .1 .1 .1 .1 .0 .1) i) (signed-within (k .yc) (t .1 .1 .1 .1 .1 .1 .1 .1 .1 .1 .0 .1) i) (signed-within (k .zc) (t .1 .1 .1 .1 .1 .1 .1 .1 .1 .1 .1 .0 .1) i)) in
+    let a = first .decode .ensures ∙ (λ i. decoded (tenthsOf (signed-within (k .ga) (t .0 .1) i)) (signed-back (f .a) i)) in
+    let b = c .before .before .before .decode2 .ensures ∙ (λ i. decoded (tenthsOf (signed-within (k .gb) (t .1 .0 .1) i)) (signed-back (f .b) i)) in
+    let d = c .before .decode3 .ensures ∙ (λ i. decoded (tenthsOf (signed-within (k .gc) (t .1 .1 .0 .1) i)) (signed-back (f .c) i)) in
+    c .rgb .ensures ∙ (λ i. rgbXyz (m i) (a i) (b i) (d i))
 
 pub close-rgb-spec : {M : Type 1} → statement M
 close-rgb-spec = tie.close (tie.spec matrix-requires decode-requires decode-requires-2 decode-requires-3 rgb-requires returns)

@@ -5,7 +5,7 @@ use lib.IntN.{ℤ}
 use lib.Ieee.{Float}
 use borrow.Author.Needs.{needs}
 use Rattle.fixed.specs.Numbers.{float}
-use Rattle.fixed.proofs.Signs.{back! }
+use Rattle.fixed.proofs.Signs.{signed-back}
 use Rattle.fixed.proofs.Decide.{eq-yes, eq-no}
 use Rattle.cie.specs.Tenths.{decodedTenths}
 use Rattle.cie.specs.Steps.{tenthsOf, decodedWhole, decoded}
@@ -33,9 +33,9 @@ returns : tie.Need-returns
 returns c =
     let n = c .before .before .before in
     let s = n .before in
-    let d = c .decode-whole .ensures ∙ (λ i. decodedWhole ((c .before .float-of .ensures ∙ ap float (back! (s .fits .a))) i) (n .tenths .result / 10)) in
+    let d = c .decode-whole .ensures ∙ (λ i. decodedWhole ((c .before .float-of .ensures ∙ ap float (signed-back (s .fits .a))) i) (n .tenths .result / 10)) in
     by-whole (n .tenths .result) (s .args .a) (c .decode-whole .result) (c .before .before .if1 .taken) d
-    ∙ (λ i. decoded ((n .tenths .ensures .0 ∙ ap tenthsOf (back! (s .fits .gamma))) i) (s .args .a))
+    ∙ (λ i. decoded ((n .tenths .ensures .0 ∙ ap tenthsOf (signed-back (s .fits .gamma))) i) (s .args .a))
 
 decode-tenths-requires : tie.Need-decode-tenths-requires
 decode-tenths-requires c κs = search needs
@@ -45,8 +45,8 @@ returns-2 c =
     let n = c .before .before in
     let s = n .before in
     by-tenths (n .tenths .result) (s .args .a) (c .decode-tenths .result) (c .before .if1 .left)
-    (c .decode-tenths .ensures ∙ ap (decodedTenths (n .tenths .result)) (back! (s .fits .a)))
-    ∙ (λ i. decoded ((n .tenths .ensures .0 ∙ ap tenthsOf (back! (s .fits .gamma))) i) (s .args .a))
+    (c .decode-tenths .ensures ∙ ap (decodedTenths (n .tenths .result)) (signed-back (s .fits .a)))
+    ∙ (λ i. decoded ((n .tenths .ensures .0 ∙ ap tenthsOf (signed-back (s .fits .gamma))) i) (s .args .a))
 
 pub decode-spec : {M : Type 1} → statement M
 decode-spec =

@@ -1,5 +1,5 @@
 -- The nine floats that the matrix has of its numbers, once their bits are read back.
-use Rattle.fixed.proofs.Signs.{back! }
+use Rattle.fixed.proofs.Signs.{signed-back}
 use borrow.Author.Needs.{needs}
 use Rattle.cie.proofs.steps.matrix.Statement.{statement}
 use Rattle.cie.proofs.steps.matrix.Tie as tie
@@ -33,8 +33,10 @@ float-of-requires-9 c κs = search needs
 
 returns : tie.Need-returns
 returns c =
-    let f = c .before .before .before .before .before .before .before .before .before .fits in
-    cc (back! (f .xa), back! (f .ya), back! (f .za), back! (f .xb), back! (f .yb), back! (f .zb), back! (f .xc), back! (f .yc), back! (f .zc))
+    let before-entry = c .before .before .before .before .before in
+    let entry = before-entry .before .before .before .before in
+    let f = entry .fits in
+    cc (signed-back (f .xa), signed-back (f .ya), signed-back (f .za), signed-back (f .xb), signed-back (f .yb), signed-back (f .zb), signed-back (f .xc), signed-back (f .yc), signed-back (f .zc))
 
 pub matrix-spec : {M : Type 1} → statement M
 matrix-spec =

@@ -2,7 +2,7 @@
 use native.Mathlib.Omega.{arith}
 use lib.IntN.{pos}
 use borrow.Author.Needs.{needs}
-use Rattle.fixed.proofs.Signs.{back! }
+use Rattle.fixed.proofs.Signs.{signed-back}
 use Rattle.cie.specs.Tenths.{decodedTenths}
 use Rattle.cie.proofs.Exp.{in-float}
 use Rattle.cie.proofs.Settled.{found}
@@ -23,7 +23,7 @@ int-to-float-result c =
 
 returns : tie.Need-returns
 unfolding decodedTenths
-returns c = rw (c .before .settle .ensures, c .before .before .ten-thousandths .ensures .0, back! (c .before .before .before .fits .a))
+returns c = rw (c .before .settle .ensures, c .before .before .ten-thousandths .ensures .0, signed-back (c .before .before .before .fits .a))
 
 pub decode-tenths-spec : {M : Type 1} → statement M
 decode-tenths-spec =

@@ -1,7 +1,7 @@
 -- `ten_thousandths` is `tenThousandths`: the component's nearer end is what `unit_part` gives.
 use native.Mathlib.Omega.{arith}
 use borrow.Author.Needs.{needs}
-use Rattle.fixed.proofs.Signs.{back! }
+use Rattle.fixed.proofs.Signs.{signed-back}
 use Rattle.cie.proofs.tenths.ten_thousandths.Statement.{statement}
 use Rattle.cie.proofs.tenths.ten_thousandths.Tie as tie
 
@@ -15,7 +15,7 @@ add-result : tie.Need-add-result
 add-result c = search needs
 
 returns : tie.Need-returns
-returns c = (rw (c .unit-part .ensures .0, back! (c .before .fits .a)), omega arith)
+returns c = (rw (c .unit-part .ensures .0, signed-back (c .before .fits .a)), omega arith)
 
 pub ten-thousandths-spec : {M : Type 1} → statement M
 ten-thousandths-spec = tie.close (tie.spec unit-part-requires cast-result add-result returns)

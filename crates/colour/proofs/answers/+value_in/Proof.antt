@@ -1,7 +1,7 @@
 -- What the values answer: by the level within, whose rank is lower, or by the closing step of a plain space.
 use mathlib.Core.Path.{ap, _∙_}
 use native.Mathlib.Omega.{arith}
-use Rattle.fixed.proofs.Signs.{came}
+use Rattle.fixed.proofs.Signs.{signed-within}
 use Rattle.cie.proofs.Closes.{closes}
 use Rattle.space.specs.Levels.{plainIn, rankIn}
 use Rattle.space.proofs.Ends.{whatever}
@@ -83,7 +83,11 @@ value-in-tint-requires : (t : ℕ) → value-in-lts.Need-tint-requires (claims t
 value-in-tint-requires t c κs = search needs
 
 value-in-value-in-requires : (t : ℕ) → value-in-lts.Need-value-in-requires (claims t) (value-in-at t) value-in.Post
-value-in-value-in-requires t c κs = (omega (arith, ap rankIn (c .before .before .before .before .l2 .given .1), c .before .before .before .before .before .before .before .pre .0, c .before .before .plain-at .ensures .1), tt)
+value-in-value-in-requires t c κs =
+    let after-plain-at = c .before .before in
+    let after-l2 = after-plain-at .before .before in
+    let entry = after-l2 .before .before .before in
+    (omega (arith, ap rankIn (after-l2 .l2 .given .1), entry .pre .0, after-plain-at .plain-at .ensures .1), tt)
 
 value-in-enum-known-l-3 : (t : ℕ) → value-in-lts.Need-enum-known-l-3 (claims t) (value-in-at t) value-in.Post
 value-in-enum-known-l-3 t c = search needs
@@ -95,18 +99,29 @@ value-in-pick-row-requires : (t : ℕ) → value-in-lts.Need-pick-row-requires (
 value-in-pick-row-requires t c κs = search needs
 
 value-in-value-in-requires-2 : (t : ℕ) → value-in-lts.Need-value-in-requires-2 (claims t) (value-in-at t) value-in.Post
-value-in-value-in-requires-2 t c κs = (omega (arith, ap rankIn (c .before .before .before .l3 .given .1), c .before .before .before .before .before .before .pre .0, c .before .tinted-at .ensures .1), tt)
+value-in-value-in-requires-2 t c κs =
+    let after-l3 = c .before .before .before in
+    let entry = after-l3 .before .before .before in
+    (omega (arith, ap rankIn (after-l3 .l3 .given .1), entry .pre .0, c .before .tinted-at .ensures .1), tt)
 
 value-in-returns : (t : ℕ) → value-in-lts.Need-returns (claims t) (value-in-at t) value-in.Post
 value-in-returns t c =
-    let k = c .before .before .before .before .before .before .before .before .before .before .l .given .0 .0 in
-    let q = c .before .before .before .before .before .before .before .before .before .before .l .given .0 .1 .0 in
-    let m = c .before .before .before .before .before .before .before .before .plain-count .ensures .0 ∙ whatever q k .0 in
-    let u = c .before .before .before .before .before .limit-all in
+    let after-close-arg3 = c .before .before in
+    let after-close-arg2 = after-close-arg3 .before in
+    let after-close-arg = after-close-arg2 .before in
+    let after-limit-all = after-close-arg .before in
+    let after-plain-highs = after-limit-all .before in
+    let after-plain-lows = after-plain-highs .before in
+    let after-plain-count = after-plain-lows .before in
+    let after-l = after-plain-count .before .before in
+    let k = after-l .l .given .0 .0 in
+    let q = after-l .l .given .0 .1 .0 in
+    let m = after-plain-count .plain-count .ensures .0 ∙ whatever q k .0 in
+    let u = after-limit-all .limit-all in
     c .close .ensures ∙
-    closes _ (u .result) (came _ (c .before .before .before .before .close-arg .given)) (came _ (c .before .before .before .close-arg2 .given)) (came _ (c .before .before .close-arg3 .given)) (came _ (c .before .close-arg4 .given)) ∙
-    value-plain _ _ k q (c .before .before .before .before .before .before .before .before .before .before .l .given .1) m
-    (u .ensures (plainIn k q) (record { count = m; low = c .before .before .before .before .before .before .before .plain-lows .ensures; high = c .before .before .before .before .before .before .plain-highs .ensures }))
+    closes _ (u .result) (signed-within _ (after-close-arg .close-arg .given)) (signed-within _ (after-close-arg2 .close-arg2 .given)) (signed-within _ (after-close-arg3 .close-arg3 .given)) (signed-within _ (c .before .close-arg4 .given)) ∙
+    value-plain _ _ k q (after-l .l .given .1) m
+    (u .ensures (plainIn k q) (record { count = m; low = after-plain-lows .plain-lows .ensures; high = after-plain-highs .plain-highs .ensures }))
 
 value-in-returns-2 : (t : ℕ) → value-in-lts.Need-returns-2 (claims t) (value-in-at t) value-in.Post
 value-in-returns-2 t c = c .value-in .ensures ∙ value-separation _ _ _ (c .before .before .before .before .before .l2 .given .1) (c .before .before .before .plain-at .ensures .0) (c .before .before .count .ensures .0 _) (c .before .tint .ensures)

@@ -38,10 +38,15 @@ value-in-requires c κs = search needs
 
 returns-3 : tie.Need-returns-3
 returns-3 c =
-    let a = c .before .before .before .before .before .before .before .args in
-    let m = space-read _ _ (c .before .before .before .before .before .level-at .ensures) countOf (c .before .before .before .before .count .ensures .0 _) in
-    space-read _ _ (c .before .before .before .before .before .level-at .ensures) (λ (s : Space). valued s (c .before .start .result)) (c .value-in .ensures) ∙
-    answered-as (spaceAt (a .page .now) (a .n)) (a .components .now) _ m (c .before .before .before .if1 .left) _ (c .before .before .if2 .left) (c .before .start .ensures)
+    let after-if2 = c .before .before in
+    let after-if1 = after-if2 .before in
+    let after-count = after-if1 .before in
+    let after-level-at = after-count .before in
+    let entry = after-level-at .before .before in
+    let a = entry .args in
+    let m = space-read _ _ (after-level-at .level-at .ensures) countOf (after-count .count .ensures .0 _) in
+    space-read _ _ (after-level-at .level-at .ensures) (λ (s : Space). valued s (c .before .start .result)) (c .value-in .ensures) ∙
+    answered-as (spaceAt (a .page .now) (a .n)) (a .components .now) _ m (after-if1 .if1 .left) _ (after-if2 .if2 .left) (c .before .start .ensures)
 
 pub evaluate-space-spec : {M : Type 1} → statement M
 evaluate-space-spec =

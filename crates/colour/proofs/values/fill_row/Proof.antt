@@ -3,7 +3,7 @@ use mathlib.Core.Path.{_≡_, refl, _∙_}
 use Prim.Native.Nat.{_≤_, _-_, _+_}
 use native.Mathlib.Omega.{arith}
 use Rattle.fixed.specs.Values.{filled}
-use Rattle.fixed.proofs.Signs.{heard}
+use Rattle.fixed.proofs.Signs.{signed-is}
 use Rattle.fixed.proofs.Listed.{filled-turn}
 use Rattle.space.specs.Spaces.{Space}
 use Rattle.space.specs.Pages.{entryOf}
@@ -48,7 +48,7 @@ loop-again c =
     let a = c .before .before .before .before .args in
     let loop = c .before .before .loop in (
       omega arith,
-      λ s r. filled-turn (λ j. entryOf (a .page .now) (a .n) s (a .at + j)) _ _ (loop .inv .1 s r) (heard _ (c .entry .ok) (c .entry .ensures s r)),
+      λ s r. filled-turn (λ j. entryOf (a .page .now) (a .n) s (a .at + j)) _ _ (loop .inv .1 s r) (signed-is _ (c .entry .ok) (c .entry .ensures s r)),
     )
 
 returns : tie.Need-returns Inv-loop μ-loop

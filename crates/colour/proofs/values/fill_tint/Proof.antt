@@ -4,7 +4,7 @@ use Prim.Native.Nat.{_≤_, _-_}
 use native.Mathlib.Omega.{arith}
 use Rattle.fixed.specs.Numbers.{tintValue}
 use Rattle.fixed.specs.Values.{value, filled}
-use Rattle.fixed.proofs.Signs.{came, heard}
+use Rattle.fixed.proofs.Signs.{signed-within, signed-is}
 use Rattle.fixed.proofs.Listed.{filled-turn}
 use borrow.Author.Needs.{needs}
 use Rattle.colour.proofs.values.fill_tint.Statement.{statement}
@@ -53,8 +53,8 @@ loop-again c =
     let loop = c .before .before .before .before .loop in (
       omega arith,
       filled-turn (λ j. tintValue (value (a .t1) j) (value (a .t2) j) (a .q)) _ _ (loop .inv .1)
-          (heard _ (c .tint-value .ok) (c .tint-value .ensures ∙
-          simp (came (value (a .t1) (loop .k)) (c .before .before .tint-value-arg .given), came (value (a .t2) (loop .k)) (c .before .tint-value-arg2 .given)))),
+          (signed-is _ (c .tint-value .ok) (c .tint-value .ensures ∙
+          simp (signed-within (value (a .t1) (loop .k)) (c .before .before .tint-value-arg .given), signed-within (value (a .t2) (loop .k)) (c .before .tint-value-arg2 .given)))),
     )
 
 returns : tie.Need-returns Inv-loop μ-loop

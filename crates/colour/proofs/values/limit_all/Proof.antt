@@ -4,7 +4,7 @@ use Prim.Native.Nat.{_≤_, _-_}
 use native.Mathlib.Omega.{arith}
 use Rattle.fixed.specs.Numbers.{limited}
 use Rattle.fixed.specs.Values.{value}
-use Rattle.fixed.proofs.Signs.{came, heard}
+use Rattle.fixed.proofs.Signs.{signed-within, signed-is}
 use Rattle.space.specs.Spaces.{Space}
 use Rattle.space.specs.Levels.{Ranged}
 use Rattle.space.proofs.Ends.{low-at, high-at}
@@ -59,16 +59,20 @@ loop-less c = omega arith
 
 loop-again : tie.Need-loop-again Inv-loop μ-loop
 loop-again c =
-    let args = c .before .before .before .before .before .before .args in
-    let loop = c .before .before .before .before .before .loop in (
+    let after-limit-arg2 = c .before .before in
+    let after-limit-arg = after-limit-arg2 .before in
+    let turn = after-limit-arg .before .before in
+    let entry = turn .before in
+    let args = entry .args in
+    let loop = turn .loop in (
       omega arith,
       λ s r.
           limited-turn s (loop .k) _ (loop .inv .1 s r)
-          (heard _ (c .limit .ok) (c .limit .ensures ∙
+          (signed-is _ (c .limit .ok) (c .limit .ensures ∙
           (λ i. limited
-          ((came (value (args .t2) (loop .k)) (c .before .before .limit-arg2 .given) ∙ low-at r (loop .k) (omega arith)) i)
-          ((came (value (args .t3) (loop .k)) (c .before .limit-arg3 .given) ∙ high-at r (loop .k) (omega arith)) i)
-          (came (value (loop .u) (loop .k)) (c .before .before .before .limit-arg .given) i)))),
+          ((signed-within (value (args .t2) (loop .k)) (after-limit-arg2 .limit-arg2 .given) ∙ low-at r (loop .k) (omega arith)) i)
+          ((signed-within (value (args .t3) (loop .k)) (c .before .limit-arg3 .given) ∙ high-at r (loop .k) (omega arith)) i)
+          (signed-within (value (loop .u) (loop .k)) (after-limit-arg .limit-arg .given) i)))),
     )
 
 returns : tie.Need-returns Inv-loop μ-loop

@@ -4,7 +4,7 @@ use native.Mathlib.Omega.{arith}
 use mir.Syntax.{w32}
 use mir.Val.{toZ, ofZ}
 use Rattle.fixed.specs.Values.{value}
-use Rattle.fixed.proofs.Signs.{came}
+use Rattle.fixed.proofs.Signs.{signed-within}
 use Rattle.fixed.proofs.Listed.{index-le}
 use Rattle.space.specs.Levels.{spaceIn}
 use Rattle.colour.proofs.Steps.{few-rows, row-picked}
@@ -28,18 +28,31 @@ highs-requires : tie.Need-highs-requires
 highs-requires c κs = search needs
 
 mul-fill-row : tie.Need-mul-fill-row
-mul-fill-row c = omega (arith, few-rows (c .before .before .round-index .result) (c .before .before .before .before .count .result) (c .before .before .before .before .before .before .args .hival) (index-le _ _ (toZ w32 (ofZ w32 (value (c .before .before .before .before .before .before .args .t5) 0))) (c .before .before .round-index .ensures)) (c .before .before .before .before .count .ensures .1) (search needs))
+mul-fill-row c =
+    let after-round-index = c .before .before in
+    let after-count = after-round-index .before .before in
+    let entry = after-count .before .before in
+    omega (arith, few-rows (after-round-index .round-index .result) (after-count .count .result) (entry .args .hival) (index-le _ _ (toZ w32 (ofZ w32 (value (entry .args .t5) 0))) (after-round-index .round-index .ensures)) (after-count .count .ensures .1) (search needs))
 
 fill-row-requires : tie.Need-fill-row-requires
-fill-row-requires c κs = (few-rows _ _ _ (index-le _ _ (toZ w32 (ofZ w32 (value (c .before .before .before .before .before .before .args .t5) 0))) (c .before .before .round-index .ensures)) (c .before .before .before .before .count .ensures .1) (search needs), c .before .before .before .before .count .ensures .1)
+fill-row-requires c κs =
+    let after-round-index = c .before .before in
+    let after-count = after-round-index .before .before in
+    let entry = after-count .before .before in
+    (few-rows _ _ _ (index-le _ _ (toZ w32 (ofZ w32 (value (entry .args .t5) 0))) (after-round-index .round-index .ensures)) (after-count .count .ensures .1) (search needs), after-count .count .ensures .1)
 
 returns : tie.Need-returns
 returns c =
-    let a = c .before .before .before .before .before .before .before .args in
+    let after-lows = c .before .before in
+    let after-round-index = after-lows .before in
+    let after-round-index-arg = after-round-index .before in
+    let after-count = after-round-index-arg .before in
+    let entry = after-count .before .before in
+    let a = entry .args in
     let s = spaceIn (a .page .now) (a .s) in
-    let m = c .before .before .before .before .before .count in
-    c .fill-row .ensures s (record { count = m .ensures .0 _; low = c .before .before .lows .ensures _; high = c .before .highs .ensures _ }) ∙
-    row-picked _ _ _ s (a .t5) (m .result) _ (toZ w32 (ofZ w32 (value (a .t5) 0))) (m .ensures .0 _) (came (value (a .t5) 0) (c .before .before .before .before .round-index-arg .given)) (c .before .before .before .round-index .ensures)
+    let m = after-count .count in
+    c .fill-row .ensures s (record { count = m .ensures .0 _; low = after-lows .lows .ensures _; high = c .before .highs .ensures _ }) ∙
+    row-picked _ _ _ s (a .t5) (m .result) _ (toZ w32 (ofZ w32 (value (a .t5) 0))) (m .ensures .0 _) (signed-within (value (a .t5) 0) (after-round-index-arg .round-index-arg .given)) (after-round-index .round-index .ensures)
 
 pub pick-row-spec : {M : Type 1} → statement M
 pick-row-spec =

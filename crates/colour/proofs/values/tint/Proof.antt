@@ -4,7 +4,7 @@ use mir.Syntax.{w32}
 use mir.Val.{toZ, ofZ}
 use Rattle.fixed.specs.Numbers.{tintValue}
 use Rattle.fixed.specs.Values.{value, filled}
-use Rattle.fixed.proofs.Signs.{came}
+use Rattle.fixed.proofs.Signs.{signed-within}
 use Rattle.colour.proofs.Steps.{tint-taken}
 use borrow.Author.Needs.{needs}
 use Rattle.colour.proofs.values.tint.Statement.{statement}
@@ -33,12 +33,17 @@ fill-tint-requires c κs = search needs
 
 returns : tie.Need-returns
 returns c =
-    let a = c .before .before .before .before .before .before .before .before .before .args in
-    let q = c .before .before .before .tint-power in
+    let after-entries-of = c .before .before in
+    let after-tint-power = after-entries-of .before in
+    let after-unit-part = after-tint-power .before .before in
+    let after-unit-part-arg = after-unit-part .before in
+    let entry = after-unit-part-arg .before .before .before in
+    let a = entry .args in
+    let q = after-tint-power .tint-power in
     c .fill-tint .ensures ∙
-    (λ i. filled (λ k. tintValue (value (c .before .before .entries-of .ensures i) k) (value (c .before .entries-of2 .ensures i) k) (q .result)) (a .m) (a .t3)) ∙
-    tint-taken (a .p .exponent) (a .m) _ (q .result) (toZ w32 (ofZ w32 (value (a .t3) 0))) _ _ (a .t3) (came (value (a .t3) 0) (c .before .before .before .before .before .before .unit-part-arg .given))
-    (c .before .before .before .before .before .unit-part .ensures .0) (q .ensures .0)
+    (λ i. filled (λ k. tintValue (value (after-entries-of .entries-of .ensures i) k) (value (c .before .entries-of2 .ensures i) k) (q .result)) (a .m) (a .t3)) ∙
+    tint-taken (a .p .exponent) (a .m) _ (q .result) (toZ w32 (ofZ w32 (value (a .t3) 0))) _ _ (a .t3) (signed-within (value (a .t3) 0) (after-unit-part-arg .unit-part-arg .given))
+    (after-unit-part .unit-part .ensures .0) (q .ensures .0)
 
 pub tint-spec : {M : Type 1} → statement M
 tint-spec =

@@ -8,7 +8,7 @@ use lib.Dec.{T, eqb, leb}
 use lib.Signed.{ltZ, nonNeg}
 use borrow.Author.Tests.{ltb-true}
 use Rattle.fixed.specs.Numbers.{gammaSupported, mostTenths}
-use Rattle.fixed.proofs.Signs.{back!, sign, fit}
+use Rattle.fixed.proofs.Signs.{signed-back, sign, fit}
 use Rattle.fixed.proofs.limits.is_gamma.Statement.{statement}
 use Rattle.fixed.proofs.limits.is_gamma.Tie as tie
 
@@ -23,18 +23,18 @@ some (pos n) t = refl
 some (negsuc n) t = absurd t
 
 returns : tie.Need-returns
-returns c = none (c .before .args .v) (rw (back! (c .before .fits .v)) at (c .if1 .taken))
+returns c = none (c .before .args .v) (rw (signed-back (c .before .fits .v)) at (c .if1 .taken))
 
 cast-n : tie.Need-cast-n
 cast-n c =
     let f = c .before .fits .v in
-    let p = sign (c .before .args .v) (rw (back! f) at (c .if1 .left)) in
-    rw (back! f) (p, fit (c .before .args .v) (f .sfits) p)
+    let p = sign (c .before .args .v) (rw (signed-back f) at (c .if1 .left)) in
+    rw (signed-back f) (p, fit (c .before .args .v) (f .sfits) p)
 
 returns-2 : tie.Need-returns-2
 returns-2 c =
     let f = c .before .fits .v in
-    rw (back! f) (some (c .before .args .v) (sign (c .before .args .v) (rw (back! f) at (c .if1 .left))))
+    rw (signed-back f) (some (c .before .args .v) (sign (c .before .args .v) (rw (signed-back f) at (c .if1 .left))))
 
 pub is-gamma-spec : {M : Type 1} → statement M
 is-gamma-spec = tie.close (tie.spec returns cast-n returns-2)

@@ -5,7 +5,7 @@ use native.Mathlib.Omega.{arith}
 use Prim.Native.Nat.{ℕ, _+_, _*_, _-_, _/_, _≤_, _<_, _^_}
 use Rattle.fixed.specs.Numbers.{partWay}
 use Rattle.fixed.proofs.Diff.{Diff, of-eq, eq-sub}
-use Rattle.fixed.proofs.Signs.{kept}
+use Rattle.fixed.proofs.Signs.{signed-back}
 use Rattle.fixed.proofs.Way.{sum-le, quot-lt, point}
 use Rattle.fixed.proofs.rounding.part_way.Statement.{statement}
 use Rattle.fixed.proofs.rounding.part_way.Tie as tie
@@ -40,7 +40,7 @@ module _ (c : tie.After-raised2) where
   quot-small = quot-lt _ _ _ _ (c .before .before .pre .0) (c .before .raised .ensures .0) (c .raised2 .ensures .0) (c .before .before .pre .1)
 
   right : Diff (partWay d q (c .before .before .args .x) (c .before .before .args .y)) ((2 * ((d - q) * a + q * b) + d) / (2 * d)) (2 ^ 31)
-  right = point _ _ _ _ (c .before .before .pre .0) (c .before .raised .ensures .0) (c .raised2 .ensures .0) (c .before .before .pre .1) (of-eq _ _ (kept (c .before .before .fits .x) ∙ c .before .raised .ensures .1)) (of-eq _ _ (kept (c .before .before .fits .y) ∙ c .raised2 .ensures .1))
+  right = point _ _ _ _ (c .before .before .pre .0) (c .before .raised .ensures .0) (c .raised2 .ensures .0) (c .before .before .pre .1) (of-eq _ _ (sym (signed-back (c .before .before .fits .x)) ∙ c .before .raised .ensures .1)) (of-eq _ _ (sym (signed-back (c .before .before .fits .y)) ∙ c .raised2 .ensures .1))
 
 mul-n : tie.Need-mul-n
 mul-n c = omega (arith, sum-small c)

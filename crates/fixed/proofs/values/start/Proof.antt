@@ -3,7 +3,7 @@ use mathlib.Core.Path.{_≡_, refl, _∙_}
 use Prim.Native.Nat.{_≤_, _-_}
 use native.Mathlib.Omega.{arith}
 use Rattle.fixed.specs.Values.{places, value, listed, filled}
-use Rattle.fixed.proofs.Signs.{heard}
+use Rattle.fixed.proofs.Signs.{signed-is}
 use Rattle.fixed.proofs.Listed.{filled-turn}
 use borrow.Author.Needs.{needs}
 use Rattle.fixed.proofs.values.start.Statement.{statement}
@@ -35,7 +35,7 @@ loop-less : tie.Need-loop-less Inv-loop μ-loop
 loop-less c = omega arith
 
 loop-again : tie.Need-loop-again Inv-loop μ-loop
-loop-again c = (omega arith, filled-turn (value (c .before .before .before .args .components .now)) _ _ (c .before .before .loop .inv .1) (heard _ (c .value-at .ok) (c .value-at .ensures)))
+loop-again c = (omega arith, filled-turn (value (c .before .before .before .args .components .now)) _ _ (c .before .before .loop .inv .1) (signed-is _ (c .value-at .ok) (c .value-at .ensures)))
 
 returns : tie.Need-returns Inv-loop μ-loop
 unfolding filled listed

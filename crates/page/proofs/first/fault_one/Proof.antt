@@ -17,8 +17,8 @@ shown x y i e f = rw (e, f)
 is-checked-requires : tie.Need-is-checked-requires
 is-checked-requires c κs = search needs
 
-is-formed-requires : tie.Need-is-formed-requires
-is-formed-requires c κs = search needs
+is-well-formed-requires : tie.Need-is-well-formed-requires
+is-well-formed-requires c κs = search needs
 
 own-at-requires : tie.Need-own-at-requires
 own-at-requires c κs = search needs
@@ -32,18 +32,18 @@ returns c = is-no _ _ _ _ (c .before .before .before .is-checked .ensures) (not-
 
 returns-2 : tie.Need-returns-2
 unfolding faultOne
-returns-2 c = is-yes _ _ _ _ (c .before .before .before .before .is-checked .ensures) (not-false _ (c .before .if1 .left)) (is-no _ _ _ _ (shown _ _ _ (c .before .before .before .is-formed .ensures) (c .before .before .own-at .ensures)) (not-true _ (c .if2 .taken)) refl)
+returns-2 c = is-yes _ _ _ _ (c .before .before .before .before .is-checked .ensures) (not-false _ (c .before .if1 .left)) (is-no _ _ _ _ (shown _ _ _ (c .before .before .before .is-well-formed .ensures) (c .before .before .own-at .ensures)) (not-true _ (c .if2 .taken)) refl)
 
 returns-3 : tie.Need-returns-3
 unfolding faultOne
-returns-3 c = is-yes _ _ _ _ (c .before .before .before .before .is-checked .ensures) (not-false _ (c .before .if1 .left)) (is-yes _ _ _ _ (shown _ _ _ (c .before .before .before .is-formed .ensures) (c .before .before .own-at .ensures)) (not-false _ (c .if2 .left)) refl)
+returns-3 c = is-yes _ _ _ _ (c .before .before .before .before .is-checked .ensures) (not-false _ (c .before .if1 .left)) (is-yes _ _ _ _ (shown _ _ _ (c .before .before .before .is-well-formed .ensures) (c .before .before .own-at .ensures)) (not-false _ (c .if2 .left)) refl)
 
 pub fault-one-spec : {M : Type 1} → statement M
 fault-one-spec =
     tie.close
     (tie.spec
     is-checked-requires
-    is-formed-requires
+    is-well-formed-requires
     own-at-requires
     cast-formed
     returns

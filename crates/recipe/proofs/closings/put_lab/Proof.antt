@@ -3,7 +3,7 @@ use mathlib.Core.Path.{_∙_}
 use mathlib.Core.List.{[], _∷_}
 use lib.IntN.{pos}
 use lib.Seq.{sets}
-use Rattle.fixed.proofs.Signs.{came}
+use Rattle.fixed.proofs.Signs.{signed-within}
 use borrow.Author.Needs.{needs}
 use Rattle.recipe.proofs.closings.put_lab.Statement.{statement}
 use Rattle.recipe.proofs.closings.put_lab.Tie as tie
@@ -22,7 +22,7 @@ returns c =
     let k = args .k in
     let t = struct-told .given in
     put3 .ensures ∙
-    (λ i. sets (args .words .now) (args .at) (pos 9 ∷ came (k .xw) (t .0 .1) i ∷ came (k .zw) (t .1 .0 .1) i ∷ []))
+    (λ i. sets (args .words .now) (args .at) (pos 9 ∷ signed-within (k .xw) (t .0 .1) i ∷ signed-within (k .zw) (t .1 .0 .1) i ∷ []))
 
 pub put-lab-spec : {M : Type 1} → statement M
 put-lab-spec = tie.close (tie.spec put3-requires same-length returns)

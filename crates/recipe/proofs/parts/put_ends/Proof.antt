@@ -34,19 +34,27 @@ add-put-closing c = search needs
 
 put-closing-requires : tie.Need-put-closing-requires
 put-closing-requires c κs =
-    let a = c .before .before .before .before .before .before .before .args in
-    let m = c .before .before .before .before .before .before .plain-count .ensures .0 ∙ whatever (a .q) (a .c) .0 in
-    ends-room (plainIn (a .c) (a .q)) _ _ m (closing-is (a .c) (a .q)) (a .at) (a .words .now) (c .before .before .put-limits .last .1 .1 .1 .0) (c .before .before .before .before .before .before .before .pre) (c .before .before .put-limits .kept .1 .1 .1 .0) .1
+    let after-put-limits = c .before .before in
+    let after-plain-count = after-put-limits .before .before .before .before in
+    let entry = after-plain-count .before in
+    let a = entry .args in
+    let m = after-plain-count .plain-count .ensures .0 ∙ whatever (a .q) (a .c) .0 in
+    ends-room (plainIn (a .c) (a .q)) _ _ m (closing-is (a .c) (a .q)) (a .at) (a .words .now) (after-put-limits .put-limits .last .1 .1 .1 .0) (entry .pre) (after-put-limits .put-limits .kept .1 .1 .1 .0) .1
 
 same-length : tie.Need-same-length
 same-length c = search needs
 
 returns : tie.Need-returns
 returns c =
-    let a = c .before .before .before .before .before .before .before .before .before .args in
-    let m = c .before .before .before .before .before .before .before .before .plain-count .ensures .0 ∙ whatever (a .q) (a .c) .0 in
+    let after-put-limits = c .before .before .before .before in
+    let after-plain-highs = after-put-limits .before .before in
+    let after-plain-lows = after-plain-highs .before in
+    let after-plain-count = after-plain-lows .before in
+    let entry = after-plain-count .before in
+    let a = entry .args in
+    let m = after-plain-count .plain-count .ensures .0 ∙ whatever (a .q) (a .c) .0 in
     let s = plainIn (a .c) (a .q) in
-    ends-set s _ _ m (closing-is (a .c) (a .q)) _ _ _ _ (c .before .before .before .before .put-limits .ensures s (record { count = m; low = c .before .before .before .before .before .before .before .plain-lows .ensures; high = c .before .before .before .before .before .before .plain-highs .ensures })) (c .before .put-closing .ensures)
+    ends-set s _ _ m (closing-is (a .c) (a .q)) _ _ _ _ (after-put-limits .put-limits .ensures s (record { count = m; low = after-plain-lows .plain-lows .ensures; high = after-plain-highs .plain-highs .ensures })) (c .before .put-closing .ensures)
 
 pub put-ends-spec : {M : Type 1} → statement M
 put-ends-spec =

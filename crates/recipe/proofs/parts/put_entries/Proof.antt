@@ -5,7 +5,7 @@ use native.Mathlib.Omega.{arith}
 use lib.ListN.{length}
 use lib.Seq.{sets, length-sets}
 use Rattle.fixed.specs.Values.{value, listed}
-use Rattle.fixed.proofs.Signs.{came}
+use Rattle.fixed.proofs.Signs.{signed-within}
 use Rattle.fixed.proofs.Listed.{listed-turn}
 use borrow.Author.Needs.{needs}
 use Rattle.recipe.proofs.parts.put_entries.Statement.{statement}
@@ -46,7 +46,7 @@ loop-again : tie.Need-loop-again Inv-loop μ-loop
 loop-again c =
     let a = c .before .before .before .args in
     let loop = c .before .before .loop in
-    (omega arith, listed-turn (value (a .t1)) _ _ _ (loop .inv .1) (came (value (a .t1) (loop .j)) (c .x .given)))
+    (omega arith, listed-turn (value (a .t1)) _ _ _ (loop .inv .1) (signed-within (value (a .t1) (loop .j)) (c .x .given)))
 
 same-length : tie.Need-same-length Inv-loop μ-loop
 same-length c = ap length (c .before .loop .inv .1) ∙ simp length-sets

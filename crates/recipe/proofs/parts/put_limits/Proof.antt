@@ -5,7 +5,7 @@ use native.Mathlib.Omega.{arith}
 use lib.ListN.{length}
 use lib.Seq.{sets}
 use Rattle.fixed.specs.Values.{value}
-use Rattle.fixed.proofs.Signs.{came, heard}
+use Rattle.fixed.proofs.Signs.{signed-within, signed-is}
 use Rattle.space.specs.Spaces.{Space}
 use Rattle.space.specs.Levels.{Ranged}
 use Rattle.space.proofs.Ends.{low-at, high-at}
@@ -60,13 +60,18 @@ loop-less c = omega arith
 
 loop-again : tie.Need-loop-again Inv-loop μ-loop
 loop-again c =
-    let a = c .before .before .before .before .before .before .before .before .args in
-    let loop = c .before .before .before .before .before .before .before .loop in (
+    let after-put4-arg3 = c .before .before in
+    let after-put4-arg2 = after-put4-arg3 .before in
+    let after-word-of = after-put4-arg2 .before .before in
+    let turn = after-word-of .before .before in
+    let entry = turn .before in
+    let a = entry .args in
+    let loop = turn .loop in (
       omega arith,
       c .before .put4 .kept .0 ∙ loop .inv .1,
       λ s r.
-          limits-turn s _ _ (loop .k) (loop .inv .2 s r) (heard _ (c .before .before .before .before .before .word-of .ok) (c .before .before .before .before .before .word-of .ensures))
-          (came (value (a .t2) (loop .k)) (c .before .before .before .put4-arg2 .given) ∙ low-at r (loop .k) (omega arith)) (came (value (a .t3) (loop .k)) (c .before .before .put4-arg3 .given) ∙ high-at r (loop .k) (omega arith))
+          limits-turn s _ _ (loop .k) (loop .inv .2 s r) (signed-is _ (after-word-of .word-of .ok) (after-word-of .word-of .ensures))
+          (signed-within (value (a .t2) (loop .k)) (after-put4-arg2 .put4-arg2 .given) ∙ low-at r (loop .k) (omega arith)) (signed-within (value (a .t3) (loop .k)) (after-put4-arg3 .put4-arg3 .given) ∙ high-at r (loop .k) (omega arith))
           (c .before .put4 .ensures),
     )
 

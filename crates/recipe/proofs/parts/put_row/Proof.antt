@@ -3,7 +3,7 @@ use mathlib.Core.Path.{_≡_}
 use native.Mathlib.Omega.{arith}
 use Prim.Native.Nat.{_≤_}
 use lib.ListN.{length}
-use Rattle.fixed.proofs.Signs.{heard}
+use Rattle.fixed.proofs.Signs.{signed-is}
 use Rattle.space.specs.Levels.{spaceIn}
 use Rattle.space.proofs.Counts.{few-entries}
 use Rattle.recipe.proofs.Words.{row-fits, row-set, row-none}
@@ -30,13 +30,23 @@ same-length : tie.Need-same-length
 same-length c = search needs
 
 returns : tie.Need-returns
-returns c = row-none (c .before .before .before .before .before .before .before .before .args .page .now) (c .before .before .before .before .before .before .before .before .args .n) (c .before .before .before .before .before .before .before .before .args .hival) (c .before .before .before .before .before .before .count .result) (spaceIn (c .before .before .before .before .before .before .before .before .args .page .now) (c .before .before .before .before .before .before .before .before .args .s)) (c .before .before .before .before .before .before .count .ensures .0 _) _ _ _ _ _ (heard _ (c .before .before .before .before .word-of .ok) (c .before .before .before .before .word-of .ensures)) (heard _ (c .before .before .before .word-of2 .ok) (c .before .before .before .word-of2 .ensures)) (c .before .before .put3 .ensures) (c .if1 .taken)
+returns c =
+    let after-put3 = c .before .before in
+    let after-word-of2 = after-put3 .before in
+    let after-word-of = after-word-of2 .before in
+    let after-count = after-word-of .before .before in
+    let entry = after-count .before .before in
+    row-none (entry .args .page .now) (entry .args .n) (entry .args .hival) (after-count .count .result) (spaceIn (entry .args .page .now) (entry .args .s)) (after-count .count .ensures .0 _) _ _ _ _ _ (signed-is _ (after-word-of .word-of .ok) (after-word-of .word-of .ensures)) (signed-is _ (after-word-of2 .word-of2 .ok) (after-word-of2 .word-of2 .ensures)) (after-put3 .put3 .ensures) (c .if1 .taken)
 
 add-size : tie.Need-add-size
 add-size c = search needs
 
 mul-size : tie.Need-mul-size
-mul-size c = omega (arith, few-entries (c .before .before .before .before .before .before .count .result) (c .before .before .before .before .before .before .before .before .args .hival) (c .before .before .before .before .before .before .count .ensures .1) (search needs))
+mul-size c =
+    let before-after-count = c .before .before .before .before .before in
+    let after-count = before-after-count .before in
+    let entry = after-count .before .before in
+    omega (arith, few-entries (after-count .count .result) (entry .args .hival) (after-count .count .ensures .1) (search needs))
 
 lows-requires : tie.Need-lows-requires
 lows-requires c κs = search needs
@@ -49,27 +59,48 @@ add-put-table c = search needs
 
 put-table-requires : tie.Need-put-table-requires
 put-table-requires c κs =
-    let r = row-fits _ _ (c .before .before .before .before .before .before .before .before .before .before .before .args .hival) (c .before .before .before .before .before .before .before .before .before .count .result) (spaceIn (c .before .before .before .before .before .before .before .before .before .before .before .args .page .now) (c .before .before .before .before .before .before .before .before .before .before .before .args .s)) (c .before .before .before .before .before .before .before .before .before .count .ensures .0 _) _ (c .before .before .before .before .before .before .before .before .before .before .before .args .words .now) (c .before .before .before .before .before .before .before .before .before .before .before .pre) in
-    let e : length (c .before .before .before .before .before .put3 .last .0) ≡ length (c .before .before .before .before .before .before .before .before .before .before .before .args .words .now) = c .before .before .before .before .before .put3 .kept .0 in
-    let some : 1 ≤ c .before .before .before .before .before .before .before .before .before .count .result = omega (arith, c .before .before .before .if1 .left) in
-    (few-entries (c .before .before .before .before .before .before .before .before .before .count .result) (c .before .before .before .before .before .before .before .before .before .before .before .args .hival) (c .before .before .before .before .before .before .before .before .before .count .ensures .1) (search needs), omega arith, some, c .before .before .before .before .before .before .before .before .before .count .ensures .1)
+    let after-if1 = c .before .before .before in
+    let after-put3 = after-if1 .before .before in
+    let after-count = after-put3 .before .before .before .before in
+    let entry = after-count .before .before in
+    let r = row-fits _ _ (entry .args .hival) (after-count .count .result) (spaceIn (entry .args .page .now) (entry .args .s)) (after-count .count .ensures .0 _) _ (entry .args .words .now) (entry .pre) in
+    let e : length (after-put3 .put3 .last .0) ≡ length (entry .args .words .now) = after-put3 .put3 .kept .0 in
+    let some : 1 ≤ after-count .count .result = omega (arith, after-if1 .if1 .left) in
+    (few-entries (after-count .count .result) (entry .args .hival) (after-count .count .ensures .1) (search needs), omega arith, some, after-count .count .ensures .1)
 
 add-result-2 : tie.Need-add-result-2
 add-result-2 c = search needs
 
 cast-result : tie.Need-cast-result
-cast-result c = omega (arith, few-entries (c .before .before .before .before .before .before .before .before .before .before .before .count .result) (c .before .before .before .before .before .before .before .before .before .before .before .before .before .args .hival) (c .before .before .before .before .before .before .before .before .before .before .before .count .ensures .1) (search needs))
+cast-result c =
+    let before-after-count = c .before .before .before .before .before in
+    let before-after-count-2 = before-after-count .before .before .before .before .before in
+    let after-count = before-after-count-2 .before in
+    let entry = after-count .before .before in
+    omega (arith, few-entries (after-count .count .result) (entry .args .hival) (after-count .count .ensures .1) (search needs))
 
 add-result-3 : tie.Need-add-result-3
-add-result-3 c = omega (arith, few-entries (c .before .before .before .before .before .before .before .before .before .before .before .count .result) (c .before .before .before .before .before .before .before .before .before .before .before .before .before .args .hival) (c .before .before .before .before .before .before .before .before .before .before .before .count .ensures .1) (search needs))
+add-result-3 c =
+    let before-after-count = c .before .before .before .before .before in
+    let before-after-count-2 = before-after-count .before .before .before .before .before in
+    let after-count = before-after-count-2 .before in
+    let entry = after-count .before .before in
+    omega (arith, few-entries (after-count .count .result) (entry .args .hival) (after-count .count .ensures .1) (search needs))
 
 same-length-2 : tie.Need-same-length-2
 same-length-2 c = search needs
 
 returns-2 : tie.Need-returns-2
 returns-2 c =
-    let s = spaceIn (c .before .before .before .before .before .before .before .before .before .before .before .before .before .args .page .now) (c .before .before .before .before .before .before .before .before .before .before .before .before .before .args .s) in
-    row-set (c .before .before .before .before .before .before .before .before .before .before .before .before .before .args .page .now) (c .before .before .before .before .before .before .before .before .before .before .before .before .before .args .n) (c .before .before .before .before .before .before .before .before .before .before .before .before .before .args .hival) (c .before .before .before .before .before .before .before .before .before .before .before .count .result) (spaceIn (c .before .before .before .before .before .before .before .before .before .before .before .before .before .args .page .now) (c .before .before .before .before .before .before .before .before .before .before .before .before .before .args .s)) (c .before .before .before .before .before .before .before .before .before .before .before .count .ensures .0 _) _ _ _ _ _ (heard _ (c .before .before .before .before .before .before .before .before .before .word-of .ok) (c .before .before .before .before .before .before .before .before .before .word-of .ensures)) (heard _ (c .before .before .before .before .before .before .before .before .word-of2 .ok) (c .before .before .before .before .before .before .before .before .word-of2 .ensures)) (c .before .before .before .before .before .before .before .put3 .ensures) _ (c .before .put-table .ensures s (record { count = c .before .before .before .before .before .before .before .before .before .before .before .count .ensures .0 _; low = c .before .before .before .before .lows .ensures _; high = c .before .before .before .highs .ensures _ }))
+    let after-highs = c .before .before .before in
+    let after-lows = after-highs .before in
+    let after-put3 = after-lows .before .before .before in
+    let after-word-of2 = after-put3 .before in
+    let after-word-of = after-word-of2 .before in
+    let after-count = after-word-of .before .before in
+    let entry = after-count .before .before in
+    let s = spaceIn (entry .args .page .now) (entry .args .s) in
+    row-set (entry .args .page .now) (entry .args .n) (entry .args .hival) (after-count .count .result) (spaceIn (entry .args .page .now) (entry .args .s)) (after-count .count .ensures .0 _) _ _ _ _ _ (signed-is _ (after-word-of .word-of .ok) (after-word-of .word-of .ensures)) (signed-is _ (after-word-of2 .word-of2 .ok) (after-word-of2 .word-of2 .ensures)) (after-put3 .put3 .ensures) _ (c .before .put-table .ensures s (record { count = after-count .count .ensures .0 _; low = after-lows .lows .ensures _; high = after-highs .highs .ensures _ }))
 
 pub put-row-spec : {M : Type 1} → statement M
 put-row-spec =

@@ -5,7 +5,7 @@ use native.Mathlib.Omega.{arith}
 use lib.ListN.{length, length-set}
 use lib.Seq.{sets}
 use Rattle.fixed.specs.Values.{listed}
-use Rattle.fixed.proofs.Signs.{heard}
+use Rattle.fixed.proofs.Signs.{signed-is}
 use Rattle.fixed.proofs.Listed.{listed-turn}
 use Rattle.space.specs.Spaces.{Space}
 use Rattle.space.specs.Pages.{entryOf}
@@ -51,7 +51,7 @@ loop-again c =
     let loop = c .before .before .loop in (
       omega arith,
       simp length-set (loop .inv .1),
-      λ s r. listed-turn (entryOf (a .page .now) (a .n) s) _ _ _ (loop .inv .2 s r) (heard _ (c .entry .ok) (c .entry .ensures s r)),
+      λ s r. listed-turn (entryOf (a .page .now) (a .n) s) _ _ _ (loop .inv .2 s r) (signed-is _ (c .entry .ok) (c .entry .ensures s r)),
     )
 
 same-length : tie.Need-same-length Inv-loop μ-loop

@@ -2,7 +2,7 @@
 use mathlib.Core.Path.{_≡_}
 use native.Mathlib.Omega.{arith}
 use lib.ListN.{length}
-use Rattle.fixed.proofs.Signs.{heard}
+use Rattle.fixed.proofs.Signs.{signed-is}
 use Rattle.recipe.proofs.Words.{tint-fits, tint-set}
 use borrow.Author.Needs.{needs}
 use Rattle.recipe.proofs.parts.put_tint.Statement.{statement}
@@ -18,7 +18,10 @@ word-of-requires-2 : tie.Need-word-of-requires-2
 word-of-requires-2 c κs = search needs
 
 put3-requires : tie.Need-put3-requires
-put3-requires c κs = let r = tint-fits (c .before .before .before .before .before .before .args .p) (c .before .before .before .before .before .before .args .m) (c .before .before .before .before .before .before .pre .0) (c .before .before .before .before .before .before .args .at) (c .before .before .before .before .before .before .args .words .now) (c .before .before .before .before .before .before .pre .1) in omega arith
+put3-requires c κs =
+    let before-entry = c .before .before .before .before .before in
+    let entry = before-entry .before in
+    let r = tint-fits (entry .args .p) (entry .args .m) (entry .pre .0) (entry .args .at) (entry .args .words .now) (entry .pre .1) in omega arith
 
 entries-of-requires : tie.Need-entries-of-requires
 entries-of-requires c κs = search needs
@@ -28,9 +31,12 @@ add-put-entries c = search needs
 
 put-entries-requires : tie.Need-put-entries-requires
 put-entries-requires c κs =
-    let r = tint-fits (c .before .before .before .before .before .before .before .before .before .before .args .p) (c .before .before .before .before .before .before .before .before .before .before .args .m) (c .before .before .before .before .before .before .before .before .before .before .pre .0) (c .before .before .before .before .before .before .before .before .before .before .args .at) (c .before .before .before .before .before .before .before .before .before .before .args .words .now) (c .before .before .before .before .before .before .before .before .before .before .pre .1) in
-    let e : length (c .before .before .before .put3 .last .0) ≡ length (c .before .before .before .before .before .before .before .before .before .before .args .words .now) = c .before .before .before .put3 .kept .0 in
-    (c .before .before .before .before .before .before .before .before .before .before .pre .0, omega arith)
+    let after-put3 = c .before .before .before in
+    let before-entry = after-put3 .before .before .before .before .before in
+    let entry = before-entry .before .before in
+    let r = tint-fits (entry .args .p) (entry .args .m) (entry .pre .0) (entry .args .at) (entry .args .words .now) (entry .pre .1) in
+    let e : length (after-put3 .put3 .last .0) ≡ length (entry .args .words .now) = after-put3 .put3 .kept .0 in
+    (entry .pre .0, omega arith)
 
 entries-of-requires-2 : tie.Need-entries-of-requires-2
 entries-of-requires-2 c κs = search needs
@@ -43,9 +49,13 @@ add-put-entries-3 c = search needs
 
 put-entries-requires-2 : tie.Need-put-entries-requires-2
 put-entries-requires-2 c κs =
-    let r = tint-fits (c .before .before .before .before .before .before .before .before .before .before .before .before .before .before .args .p) (c .before .before .before .before .before .before .before .before .before .before .before .before .before .before .args .m) (c .before .before .before .before .before .before .before .before .before .before .before .before .before .before .pre .0) (c .before .before .before .before .before .before .before .before .before .before .before .before .before .before .args .at) (c .before .before .before .before .before .before .before .before .before .before .before .before .before .before .args .words .now) (c .before .before .before .before .before .before .before .before .before .before .before .before .before .before .pre .1) in
-    let e : length (c .before .before .before .before .before .before .before .put3 .last .0) ≡ length (c .before .before .before .before .before .before .before .before .before .before .before .before .before .before .args .words .now) = c .before .before .before .before .before .before .before .put3 .kept .0 in
-    (c .before .before .before .before .before .before .before .before .before .before .before .before .before .before .pre .0, omega (arith, c .before .before .before .put-entries .kept .1 .1 .0))
+    let after-put-entries = c .before .before .before in
+    let after-put3 = after-put-entries .before .before .before .before in
+    let before-entry = after-put3 .before .before .before .before .before in
+    let entry = before-entry .before .before in
+    let r = tint-fits (entry .args .p) (entry .args .m) (entry .pre .0) (entry .args .at) (entry .args .words .now) (entry .pre .1) in
+    let e : length (after-put3 .put3 .last .0) ≡ length (entry .args .words .now) = after-put3 .put3 .kept .0 in
+    (entry .pre .0, omega (arith, after-put-entries .put-entries .kept .1 .1 .0))
 
 add-result : tie.Need-add-result
 add-result c = search needs
@@ -61,8 +71,15 @@ same-length c = search needs
 
 returns : tie.Need-returns
 returns c =
-    tint-set (c .before .before .before .before .before .before .before .before .before .before .before .before .before .before .before .before .args .p) (c .before .before .before .before .before .before .before .before .before .before .before .before .before .before .before .before .args .m) (c .before .before .before .before .before .before .before .before .before .before .before .before .before .before .before .before .pre .0) _ _ _ _ _ _ _ _ _ (heard _ (c .before .before .before .before .before .before .before .before .before .before .before .before .word-of .ok) (c .before .before .before .before .before .before .before .before .before .before .before .before .word-of .ensures)) (heard _ (c .before .before .before .before .before .before .before .before .before .before .word-of2 .ok) (c .before .before .before .before .before .before .before .before .before .before .word-of2 .ensures))
-    (c .before .before .before .before .before .before .before .entries-of .ensures) (c .before .before .before .entries-of2 .ensures) (c .before .before .before .before .before .before .before .before .before .put3 .ensures) (c .before .before .before .before .before .put-entries .ensures) (c .before .put-entries2 .ensures)
+    let after-entries-of2 = c .before .before .before in
+    let after-put-entries = after-entries-of2 .before .before in
+    let after-entries-of = after-put-entries .before .before in
+    let after-put3 = after-entries-of .before .before in
+    let after-word-of2 = after-put3 .before in
+    let after-word-of = after-word-of2 .before .before in
+    let entry = after-word-of .before .before .before .before in
+    tint-set (entry .args .p) (entry .args .m) (entry .pre .0) _ _ _ _ _ _ _ _ _ (signed-is _ (after-word-of .word-of .ok) (after-word-of .word-of .ensures)) (signed-is _ (after-word-of2 .word-of2 .ok) (after-word-of2 .word-of2 .ensures))
+    (after-entries-of .entries-of .ensures) (after-entries-of2 .entries-of2 .ensures) (after-put3 .put3 .ensures) (after-put-entries .put-entries .ensures) (c .before .put-entries2 .ensures)
 
 pub put-tint-spec : {M : Type 1} → statement M
 put-tint-spec =

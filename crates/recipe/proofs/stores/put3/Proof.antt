@@ -1,5 +1,5 @@
 -- Three stores are a run of three words.
-use Rattle.fixed.proofs.Signs.{back! }
+use Rattle.fixed.proofs.Signs.{signed-back}
 use lib.ListN.{length-set}
 use native.Mathlib.Numerals.{towards-suc}
 use native.Mathlib.Omega.{arith}
@@ -35,7 +35,7 @@ same-length : tie.Need-same-length
 same-length c = search needs
 
 returns : tie.Need-returns
-returns c = simp (back! (c .fits .a), back! (c .fits .b), back! (c .fits .c), towards-suc)
+returns c = simp (signed-back (c .fits .a), signed-back (c .fits .b), signed-back (c .fits .c), towards-suc)
 
 pub put3-spec : {M : Type 1} → statement M
 put3-spec =

@@ -1,6 +1,6 @@
 -- A run of three words and one store are a run of four.
 use native.Mathlib.Numerals.{towards-suc}
-use Rattle.fixed.proofs.Signs.{back! }
+use Rattle.fixed.proofs.Signs.{signed-back}
 use borrow.Author.Needs.{needs}
 use Rattle.recipe.proofs.stores.put4.Statement.{statement}
 use Rattle.recipe.proofs.stores.put4.Tie as tie
@@ -23,7 +23,7 @@ same-length c = search needs
 returns : tie.Need-returns
 returns c =
     let f = c .before .before .before .fits in
-    simp (c .before .put3 .ensures, back! (f .a), back! (f .b), back! (f .c), back! (f .d), towards-suc)
+    simp (c .before .put3 .ensures, signed-back (f .a), signed-back (f .b), signed-back (f .c), signed-back (f .d), towards-suc)
 
 pub put4-spec : {M : Type 1} → statement M
 put4-spec = tie.close (tie.spec put3-requires add-d mul-d slice-set-from-d same-length returns)

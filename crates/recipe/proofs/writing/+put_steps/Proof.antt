@@ -51,13 +51,22 @@ put-steps-count-requires : (t : ℕ) → put-steps-lts.Need-count-requires (clai
 put-steps-count-requires t c κs = search needs
 
 put-steps-put-tint-requires : (t : ℕ) → put-steps-lts.Need-put-tint-requires (claims t) (put-steps-at t) put-steps.Post
-put-steps-put-tint-requires t c κs = (c .before .count .ensures .1, head-room _ (tintWords _ _) _ (steps-separation _ (c .before .before .before .before .l2 .given .0 .0) (c .before .before .before .before .l2 .given .1) (c .before .before .plain-at .ensures .0) (c .before .count .ensures .0 _)) _ _ refl (c .before .before .before .before .before .before .before .args .words .now) (c .before .before .before .before .before .before .before .pre .1))
+put-steps-put-tint-requires t c κs =
+    let after-plain-at = c .before .before in
+    let after-l2 = after-plain-at .before .before in
+    let entry = after-l2 .before .before .before in
+    (c .before .count .ensures .1, head-room _ (tintWords _ _) _ (steps-separation _ (after-l2 .l2 .given .0 .0) (after-l2 .l2 .given .1) (after-plain-at .plain-at .ensures .0) (c .before .count .ensures .0 _)) _ _ refl (entry .args .words .now) (entry .pre .1))
 
 put-steps-put-steps-requires : (t : ℕ) → put-steps-lts.Need-put-steps-requires (claims t) (put-steps-at t) put-steps.Post
-put-steps-put-steps-requires t c κs = (
-  omega (arith, ap rankIn (c .before .before .before .before .before .before .before .l2 .given .1), c .before .before .before .before .before .before .before .before .before .before .pre .0, c .before .before .before .before .before .plain-at .ensures .1),
-  steps-room _ (tintWords _ _) _ (steps-separation _ (c .before .before .before .before .before .before .before .l2 .given .0 .0) (c .before .before .before .before .before .before .before .l2 .given .1) (c .before .before .before .before .before .plain-at .ensures .0) (c .before .before .before .before .count .ensures .0 _)) _ _ (c .before .before .put-tint .ensures .1) (c .before .before .before .before .before .before .before .before .before .before .args .words .now) (c .before .before .put-tint .last .1 .1 .0) (c .before .before .before .before .before .before .before .before .before .before .pre .1) (c .before .before .put-tint .kept .1 .1 .0),
-)
+put-steps-put-steps-requires t c κs =
+    let after-put-tint = c .before .before in
+    let after-count = after-put-tint .before .before in
+    let after-plain-at = after-count .before in
+    let after-l2 = after-plain-at .before .before in
+    let entry = after-l2 .before .before .before in (
+      omega (arith, ap rankIn (after-l2 .l2 .given .1), entry .pre .0, after-plain-at .plain-at .ensures .1),
+      steps-room _ (tintWords _ _) _ (steps-separation _ (after-l2 .l2 .given .0 .0) (after-l2 .l2 .given .1) (after-plain-at .plain-at .ensures .0) (after-count .count .ensures .0 _)) _ _ (after-put-tint .put-tint .ensures .1) (entry .args .words .now) (after-put-tint .put-tint .last .1 .1 .0) (entry .pre .1) (after-put-tint .put-tint .kept .1 .1 .0),
+    )
 
 put-steps-enum-known-l-3 : (t : ℕ) → put-steps-lts.Need-enum-known-l-3 (claims t) (put-steps-at t) put-steps.Post
 put-steps-enum-known-l-3 t c = search needs
@@ -66,31 +75,50 @@ put-steps-tinted-at-requires : (t : ℕ) → put-steps-lts.Need-tinted-at-requir
 put-steps-tinted-at-requires t c κs = search needs
 
 put-steps-put-row-requires : (t : ℕ) → put-steps-lts.Need-put-row-requires (claims t) (put-steps-at t) put-steps.Post
-put-steps-put-row-requires t c κs = head-room _ (rowWords _ _ _ _) _ (steps-indexed _ _ _ _ (c .before .before .before .l3 .given .1) (c .before .tinted-at .ensures .0)) _ _ refl (c .before .before .before .before .before .before .args .words .now) (c .before .before .before .before .before .before .pre .1)
+put-steps-put-row-requires t c κs =
+    let after-l3 = c .before .before .before in
+    let entry = after-l3 .before .before .before in
+    head-room _ (rowWords _ _ _ _) _ (steps-indexed _ _ _ _ (after-l3 .l3 .given .1) (c .before .tinted-at .ensures .0)) _ _ refl (entry .args .words .now) (entry .pre .1)
 
 put-steps-put-steps-requires-2 : (t : ℕ) → put-steps-lts.Need-put-steps-requires-2 (claims t) (put-steps-at t) put-steps.Post
-put-steps-put-steps-requires-2 t c κs = (
-  omega (arith, ap rankIn (c .before .before .before .before .before .before .l3 .given .1), c .before .before .before .before .before .before .before .before .before .pre .0, c .before .before .before .before .tinted-at .ensures .1),
-  steps-room _ (rowWords _ _ _ _) _ (steps-indexed _ _ _ _ (c .before .before .before .before .before .before .l3 .given .1) (c .before .before .before .before .tinted-at .ensures .0)) _ _ (c .before .before .put-row .ensures .1) (c .before .before .before .before .before .before .before .before .before .args .words .now) (c .before .before .put-row .last .1 .1 .1 .1 .0) (c .before .before .before .before .before .before .before .before .before .pre .1) (c .before .before .put-row .kept .1 .1 .1 .1 .0),
-)
+put-steps-put-steps-requires-2 t c κs =
+    let after-put-row = c .before .before in
+    let after-tinted-at = after-put-row .before .before in
+    let after-l3 = after-tinted-at .before .before in
+    let entry = after-l3 .before .before .before in (
+      omega (arith, ap rankIn (after-l3 .l3 .given .1), entry .pre .0, after-tinted-at .tinted-at .ensures .1),
+      steps-room _ (rowWords _ _ _ _) _ (steps-indexed _ _ _ _ (after-l3 .l3 .given .1) (after-tinted-at .tinted-at .ensures .0)) _ _ (after-put-row .put-row .ensures .1) (entry .args .words .now) (after-put-row .put-row .last .1 .1 .1 .1 .0) (entry .pre .1) (after-put-row .put-row .kept .1 .1 .1 .1 .0),
+    )
 
 put-steps-same-length : (t : ℕ) → put-steps-lts.Need-same-length (claims t) (put-steps-at t) put-steps.Post
 put-steps-same-length t c = search needs
 
 put-steps-returns : (t : ℕ) → put-steps-lts.Need-returns (claims t) (put-steps-at t) put-steps.Post
-put-steps-returns t c = c .before .put-ends .ensures ∙ sym (ap (sets (c .before .before .before .before .before .before .before .args .words .now) (c .before .before .before .before .before .before .before .args .at)) (steps-plain _ (c .before .before .before .before .l .given .0 .0) (c .before .before .before .before .l .given .0 .1 .0) (c .before .before .before .before .l .given .1)))
+put-steps-returns t c =
+    let after-l = c .before .before .before .before in
+    let entry = after-l .before .before .before in
+    c .before .put-ends .ensures ∙ sym (ap (sets (entry .args .words .now) (entry .args .at)) (steps-plain _ (after-l .l .given .0 .0) (after-l .l .given .0 .1 .0) (after-l .l .given .1)))
 
 put-steps-same-length-2 : (t : ℕ) → put-steps-lts.Need-same-length-2 (claims t) (put-steps-at t) put-steps.Post
 put-steps-same-length-2 t c = search needs
 
 put-steps-returns-2 : (t : ℕ) → put-steps-lts.Need-returns-2 (claims t) (put-steps-at t) put-steps.Post
-put-steps-returns-2 t c = steps-set _ (tintWords _ _) _ (steps-separation _ (c .before .before .before .before .before .before .before .before .before .l2 .given .0 .0) (c .before .before .before .before .before .before .before .before .before .l2 .given .1) (c .before .before .before .before .before .before .before .plain-at .ensures .0) (c .before .before .before .before .before .before .count .ensures .0 _)) _ _ (c .before .before .before .before .put-tint .ensures .1) _ _ _ (c .before .before .before .before .put-tint .ensures .0) (c .before .put-steps .ensures)
+put-steps-returns-2 t c =
+    let after-put-tint = c .before .before .before .before in
+    let after-count = after-put-tint .before .before in
+    let after-plain-at = after-count .before in
+    let after-l2 = after-plain-at .before .before in
+    steps-set _ (tintWords _ _) _ (steps-separation _ (after-l2 .l2 .given .0 .0) (after-l2 .l2 .given .1) (after-plain-at .plain-at .ensures .0) (after-count .count .ensures .0 _)) _ _ (after-put-tint .put-tint .ensures .1) _ _ _ (after-put-tint .put-tint .ensures .0) (c .before .put-steps .ensures)
 
 put-steps-same-length-3 : (t : ℕ) → put-steps-lts.Need-same-length-3 (claims t) (put-steps-at t) put-steps.Post
 put-steps-same-length-3 t c = search needs
 
 put-steps-returns-3 : (t : ℕ) → put-steps-lts.Need-returns-3 (claims t) (put-steps-at t) put-steps.Post
-put-steps-returns-3 t c = steps-set _ (rowWords _ _ _ _) _ (steps-indexed _ _ _ _ (c .before .before .before .before .before .before .before .before .l3 .given .1) (c .before .before .before .before .before .before .tinted-at .ensures .0)) _ _ (c .before .before .before .before .put-row .ensures .1) _ _ _ (c .before .before .before .before .put-row .ensures .0) (c .before .put-steps2 .ensures)
+put-steps-returns-3 t c =
+    let after-put-row = c .before .before .before .before in
+    let after-tinted-at = after-put-row .before .before in
+    let after-l3 = after-tinted-at .before .before in
+    steps-set _ (rowWords _ _ _ _) _ (steps-indexed _ _ _ _ (after-l3 .l3 .given .1) (after-tinted-at .tinted-at .ensures .0)) _ _ (after-put-row .put-row .ensures .1) _ _ _ (after-put-row .put-row .ensures .0) (c .before .put-steps2 .ensures)
 
 pub +put-steps-spec : {M : Type 1} → statement M
 +put-steps-spec = close μ-put-steps λ t. put-steps-lts.spec (claims t)

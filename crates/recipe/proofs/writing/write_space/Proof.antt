@@ -5,7 +5,7 @@ use native.Mathlib.Omega.{arith}
 use lib.IntN.{ℤ}
 use lib.ListN.{length-set}
 use lib.Seq.{sets}
-use Rattle.fixed.proofs.Signs.{heard}
+use Rattle.fixed.proofs.Signs.{signed-is}
 use Rattle.space.specs.Spaces.{Space, countOf, wordsOf}
 use Rattle.space.proofs.Levels.{level-space, space-read}
 use Rattle.recipe.specs.Recipes.{stepsOf, recipeOf}
@@ -38,9 +38,13 @@ cast-if2 c = search needs
 
 returns-2 : tie.Need-returns-2
 returns-2 c =
-    let m = space-read _ _ (c .before .before .before .before .level-at .ensures) countOf (c .before .before .before .count .ensures .0 _) in
-    let r = space-read _ _ (c .before .before .before .before .level-at .ensures) wordsOf (c .before .words-in .ensures .0) ∙ sym (length-at (c .before .before .before .before .before .before .args .page .now) (c .before .before .before .before .before .before .args .n)) in
-    reply-short _ _ _ m (c .before .before .if1 .left) _ r (c .if2 .taken)
+    let after-if1 = c .before .before in
+    let after-count = after-if1 .before in
+    let after-level-at = after-count .before in
+    let entry = after-level-at .before .before in
+    let m = space-read _ _ (after-level-at .level-at .ensures) countOf (after-count .count .ensures .0 _) in
+    let r = space-read _ _ (after-level-at .level-at .ensures) wordsOf (c .before .words-in .ensures .0) ∙ sym (length-at (entry .args .page .now) (entry .args .n)) in
+    reply-short _ _ _ m (after-if1 .if1 .left) _ r (c .if2 .taken)
 
 word-of-requires : tie.Need-word-of-requires
 word-of-requires c κs = search needs
@@ -51,17 +55,28 @@ slice-set-from-words c = omega (arith, c .before .before .words-in .ensures .0, 
 
 put-steps-requires : tie.Need-put-steps-requires
 unfolding recipeOf
-put-steps-requires c κs = simp length-set (omega (arith, c .before .before .before .words-in .ensures .0, length-in _ _ (c .before .before .before .before .before .before .level-at .ensures), c .before .before .if2 .left))
+put-steps-requires c κs =
+    let after-if2 = c .before .before in
+    let after-words-in = after-if2 .before in
+    let after-level-at = after-words-in .before .before .before in
+    simp length-set (omega (arith, after-words-in .words-in .ensures .0, length-in _ _ (after-level-at .level-at .ensures), after-if2 .if2 .left))
 
 same-length : tie.Need-same-length
 same-length c = c .before .put-steps .kept .1 .1 .0 ∙ simp length-set
 
 returns-3 : tie.Need-returns-3
 returns-3 c =
-    let m = space-read _ _ (c .before .before .before .before .before .before .before .before .level-at .ensures) countOf (c .before .before .before .before .before .before .before .count .ensures .0 _) in
-    let r = space-read _ _ (c .before .before .before .before .before .before .before .before .level-at .ensures) wordsOf (c .before .before .before .before .before .words-in .ensures .0) ∙ sym (length-at (c .before .before .before .before .before .before .before .before .before .before .args .page .now) (c .before .before .before .before .before .before .before .before .before .before .args .n)) in
-    reply-words _ _ _ m (c .before .before .before .before .before .before .if1 .left) _ r _ _ (heard _ (c .before .before .before .word-of .ok) (c .before .before .before .word-of .ensures)) (c .before .before .before .before .if2 .left)
-    (moved _ (level-space _ _ (c .before .before .before .before .before .before .before .before .level-at .ensures)) (c .before .put-steps .ensures))
+    let after-word-of = c .before .before .before in
+    let after-if2 = after-word-of .before in
+    let after-words-in = after-if2 .before in
+    let after-if1 = after-words-in .before in
+    let after-count = after-if1 .before in
+    let after-level-at = after-count .before in
+    let entry = after-level-at .before .before in
+    let m = space-read _ _ (after-level-at .level-at .ensures) countOf (after-count .count .ensures .0 _) in
+    let r = space-read _ _ (after-level-at .level-at .ensures) wordsOf (after-words-in .words-in .ensures .0) ∙ sym (length-at (entry .args .page .now) (entry .args .n)) in
+    reply-words _ _ _ m (after-if1 .if1 .left) _ r _ _ (signed-is _ (after-word-of .word-of .ok) (after-word-of .word-of .ensures)) (after-if2 .if2 .left)
+    (moved _ (level-space _ _ (after-level-at .level-at .ensures)) (c .before .put-steps .ensures))
 
 pub write-space-spec : {M : Type 1} → statement M
 write-space-spec =

@@ -58,17 +58,17 @@ loop-again c =
     let e = c .before .before .sum-column .ensures in
     across _ _ _ _ (c .before .before .before .before .loop .k) (c .before .before .sum-column .result .sum) (c .before .before .sum-column .result .running) (c .before .before .before .before .loop .inv) (c .before .before .before .loop-test .taken) (e .0 .0) (e .0 .1) (e .1 .0) (e .1 .1)
 
-byte-requires : tie.Need-byte-requires Inv-loop μ-loop
-byte-requires c κs = search needs
+byte-at-requires : tie.Need-byte-at-requires Inv-loop μ-loop
+byte-at-requires c κs = search needs
 
-byte-requires-2 : tie.Need-byte-requires-2 Inv-loop μ-loop
-byte-requires-2 c κs = search needs
+byte-at-requires-2 : tie.Need-byte-at-requires-2 Inv-loop μ-loop
+byte-at-requires-2 c κs = search needs
 
-byte-requires-3 : tie.Need-byte-requires-3 Inv-loop μ-loop
-byte-requires-3 c κs = search needs
+byte-at-requires-3 : tie.Need-byte-at-requires-3 Inv-loop μ-loop
+byte-at-requires-3 c κs = search needs
 
-byte-requires-4 : tie.Need-byte-requires-4 Inv-loop μ-loop
-byte-requires-4 c κs = search needs
+byte-at-requires-4 : tie.Need-byte-at-requires-4 Inv-loop μ-loop
+byte-at-requires-4 c κs = search needs
 
 add-t17 : tie.Need-add-t17 Inv-loop μ-loop
 add-t17 c = search needs
@@ -81,7 +81,7 @@ add-t19 c = search needs
 
 sub-t20 : tie.Need-sub-t20 Inv-loop μ-loop
 sub-t20 c =
-    let z = settles _ _ _ _ _ (c .before .before .before .byte .result) (c .before .before .byte2 .result) (c .before .byte3 .result) (c .byte4 .result) (c .before .before .before .before .before .loop .inv) (omega (arith, c .before .before .before .before .before .loop .inv .within)) (c .before .before .before .byte .ensures .0) (c .before .before .byte2 .ensures .0) (c .before .byte3 .ensures .0) (c .byte4 .ensures .0) in
+    let z = settles _ _ _ _ _ (c .before .before .before .byte-at .result) (c .before .before .byte-at2 .result) (c .before .byte-at3 .result) (c .byte-at4 .result) (c .before .before .before .before .before .loop .inv) (omega (arith, c .before .before .before .before .before .loop .inv .within)) (c .before .before .before .byte-at .ensures .0) (c .before .before .byte-at2 .ensures .0) (c .before .byte-at3 .ensures .0) (c .byte-at4 .ensures .0) in
     omega (arith, z .sum-least)
 
 mul-t22 : tie.Need-mul-t22 Inv-loop μ-loop
@@ -104,13 +104,13 @@ add-t27 c = search needs
 
 sub-t28 : tie.Need-sub-t28 Inv-loop μ-loop
 sub-t28 c =
-    let z = settles _ _ _ _ _ (c .before .before .before .byte .result) (c .before .before .byte2 .result) (c .before .byte3 .result) (c .byte4 .result) (c .before .before .before .before .before .loop .inv) (omega (arith, c .before .before .before .before .before .loop .inv .within)) (c .before .before .before .byte .ensures .0) (c .before .before .byte2 .ensures .0) (c .before .byte3 .ensures .0) (c .byte4 .ensures .0) in
+    let z = settles _ _ _ _ _ (c .before .before .before .byte-at .result) (c .before .before .byte-at2 .result) (c .before .byte-at3 .result) (c .byte-at4 .result) (c .before .before .before .before .before .loop .inv) (omega (arith, c .before .before .before .before .before .loop .inv .within)) (c .before .before .before .byte-at .ensures .0) (c .before .before .byte-at2 .ensures .0) (c .before .byte-at3 .ensures .0) (c .byte-at4 .ensures .0) in
     omega (arith, z .over-least)
 
 returns : tie.Need-returns Inv-loop μ-loop
 unfolding plain weighed
 returns c =
-    let z = settles _ _ _ _ _ (c .before .before .before .byte .result) (c .before .before .byte2 .result) (c .before .byte3 .result) (c .byte4 .result) (c .before .before .before .before .before .loop .inv) (omega (arith, c .before .before .before .before .before .loop .inv .within)) (c .before .before .before .byte .ensures .0) (c .before .before .byte2 .ensures .0) (c .before .byte3 .ensures .0) (c .byte4 .ensures .0) in
+    let z = settles _ _ _ _ _ (c .before .before .before .byte-at .result) (c .before .before .byte-at2 .result) (c .before .byte-at3 .result) (c .byte-at4 .result) (c .before .before .before .before .before .loop .inv) (omega (arith, c .before .before .before .before .before .loop .inv .within)) (c .before .before .before .byte-at .ensures .0) (c .before .before .byte-at2 .ensures .0) (c .before .byte-at3 .ensures .0) (c .byte-at4 .ensures .0) in
     (ap (λ (x : ℕ). x % 65535) (z .plain-is), ap (λ (x : ℕ). x % 65535) (z .weighed-is))
 
 pub sum-up-spec : {M : Type 1} → statement M
@@ -132,10 +132,10 @@ sum-up-spec =
     add-k
     loop-less
     loop-again
-    byte-requires
-    byte-requires-2
-    byte-requires-3
-    byte-requires-4
+    byte-at-requires
+    byte-at-requires-2
+    byte-at-requires-3
+    byte-at-requires-4
     add-t17
     add-t18
     add-t19

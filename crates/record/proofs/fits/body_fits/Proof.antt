@@ -2,7 +2,7 @@
 use mathlib.Core.Path.{sym}
 use mathlib.Core.List.{[]}
 use mathlib.Core.Path.{subst}
-use Rattle.layout.specs.Field.{InRanges}
+use Rattle.layout.specs.Field.{FieldsFit}
 use Rattle.record.specs.Layout.{body}
 use Rattle.record.specs.declared.types.Body.{Body}
 use mathlib.Core.Path.{subst}
@@ -50,19 +50,19 @@ returns : tie.Need-returns
 returns c = rw (c .enum-told .given .1) tt
 
 returns-2 : tie.Need-returns-2
-returns-2 c = subst (λ (y : Body). InRanges (body y [])) (sym (c .before .before .y .given .1)) (c .gray-fits .ensures)
+returns-2 c = subst (λ (y : Body). FieldsFit (body y [])) (sym (c .before .before .y .given .1)) (c .gray-fits .ensures)
 
 returns-3 : tie.Need-returns-3
-returns-3 c = subst (λ (y : Body). InRanges (body y [])) (sym (c .before .before .y2 .given .1)) (c .rgb-fits .ensures)
+returns-3 c = subst (λ (y : Body). FieldsFit (body y [])) (sym (c .before .before .y2 .given .1)) (c .rgb-fits .ensures)
 
 returns-4 : tie.Need-returns-4
-returns-4 c = subst (λ (y : Body). InRanges (body y [])) (sym (c .before .before .y3 .given .1)) (c .lab-fits .ensures)
+returns-4 c = subst (λ (y : Body). FieldsFit (body y [])) (sym (c .before .before .y3 .given .1)) (c .lab-fits .ensures)
 
 returns-5 : tie.Need-returns-5
-returns-5 c = subst (λ (y : Body). InRanges (body y [])) (sym (c .before .before .y4 .given .1)) (c .indexed-fits .ensures)
+returns-5 c = subst (λ (y : Body). FieldsFit (body y [])) (sym (c .before .before .y4 .given .1)) (c .indexed-fits .ensures)
 
 returns-6 : tie.Need-returns-6
-returns-6 c = subst (λ (y : Body). InRanges (body y [])) (sym (c .before .before .y5 .given .1)) (c .separation-fits .ensures)
+returns-6 c = subst (λ (y : Body). FieldsFit (body y [])) (sym (c .before .before .y5 .given .1)) (c .separation-fits .ensures)
 
 returns-7 : tie.Need-returns-7
 returns-7 c = rw (c .enum-told2 .given .1) (tt, tt)

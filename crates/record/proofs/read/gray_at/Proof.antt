@@ -1,5 +1,5 @@
 -- `gray_at` reads each field at its place.
-use Rattle.fixed.proofs.Signs.{heard}
+use Rattle.fixed.proofs.Signs.{signed-is}
 use borrow.Author.Needs.{needs}
 use Rattle.record.proofs.read.gray_at.Statement.{statement}
 use Rattle.record.proofs.read.gray_at.Tie as tie
@@ -10,11 +10,11 @@ triple-at-requires c κs = search needs
 triple-at-requires-2 : tie.Need-triple-at-requires-2
 triple-at-requires-2 c κs = search needs
 
-number-requires : tie.Need-number-requires
-number-requires c κs = search needs
+number-at-requires : tie.Need-number-at-requires
+number-at-requires c κs = search needs
 
 returns : tie.Need-returns
-returns c = λ i. record { white = c .before .before .triple-at .ensures i; black = c .before .triple-at2 .ensures i; gamma = heard _ (c .number .ok) (c .number .ensures) i }
+returns c = λ i. record { white = c .before .before .triple-at .ensures i; black = c .before .triple-at2 .ensures i; gamma = signed-is _ (c .number-at .ok) (c .number-at .ensures) i }
 
 pub gray-at-spec : {M : Type 1} → statement M
-gray-at-spec = tie.close (tie.spec triple-at-requires triple-at-requires-2 number-requires returns)
+gray-at-spec = tie.close (tie.spec triple-at-requires triple-at-requires-2 number-at-requires returns)

@@ -29,11 +29,11 @@ by-kind k b =
     other : (j : ℕ) {t : Bool} → eqb k j ≡ true → eqb j 6 ≡ t → eqb k 6 ≡ t
     other j e h = rw (eqb-true k j e) h
 
-byte-requires : tie.Need-byte-requires
-byte-requires c κs = search needs
+byte-at-requires : tie.Need-byte-at-requires
+byte-at-requires c κs = search needs
 
 returns : tie.Need-returns
-returns c = ap (λ (k : ℕ). eqb k 6) (c .byte .ensures .0) ∙ by-kind _ _
+returns c = ap (λ (k : ℕ). eqb k 6) (c .byte-at .ensures .0) ∙ by-kind _ _
 
 pub is-palette-spec : {M : Type 1} → statement M
-is-palette-spec = tie.close (tie.spec byte-requires returns)
+is-palette-spec = tie.close (tie.spec byte-at-requires returns)

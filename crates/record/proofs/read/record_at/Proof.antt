@@ -8,8 +8,8 @@ use borrow.Author.Needs.{needs}
 use Rattle.record.proofs.read.record_at.Statement.{statement}
 use Rattle.record.proofs.read.record_at.Tie as tie
 
-byte-requires : tie.Need-byte-requires
-byte-requires c κs = search needs
+byte-at-requires : tie.Need-byte-at-requires
+byte-at-requires c κs = search needs
 
 own-at-requires : tie.Need-own-at-requires
 own-at-requires c κs = search needs
@@ -26,9 +26,9 @@ returns c = λ i.
     record {
       own = c .before .before .own-at .ensures i;
       body = c .before .body-at .ensures i;
-      bytes = (c .bytes-at .ensures ∙ ap (λ (k : ℕ). bytesBy k (drop (512 * c .before .before .before .before .before .args .n) (now (c .before .before .before .before .before .args .page)))) (c .before .before .before .byte .ensures .0)) i;
+      bytes = (c .bytes-at .ensures ∙ ap (λ (k : ℕ). bytesBy k (drop (512 * c .before .before .before .before .before .args .n) (now (c .before .before .before .before .before .args .page)))) (c .before .before .before .byte-at .ensures .0)) i;
     }
 
 pub record-at-spec : {M : Type 1} → statement M
 record-at-spec =
-    tie.close (tie.spec byte-requires own-at-requires body-at-requires bytes-at-requires returns)
+    tie.close (tie.spec byte-at-requires own-at-requires body-at-requires bytes-at-requires returns)

@@ -25,11 +25,11 @@ loop-holds : tie.Need-loop-holds Inv-loop μ-loop
 unfolding padded
 loop-holds c = (omega arith, refl)
 
-add-byte : tie.Need-add-byte Inv-loop μ-loop
-add-byte c = search needs
+add-byte-at : tie.Need-add-byte-at Inv-loop μ-loop
+add-byte-at c = search needs
 
-byte-requires : tie.Need-byte-requires Inv-loop μ-loop
-byte-requires c κs = search needs
+byte-at-requires : tie.Need-byte-at-requires Inv-loop μ-loop
+byte-at-requires c κs = search needs
 
 cast-bytes : tie.Need-cast-bytes Inv-loop μ-loop
 cast-bytes c = search needs
@@ -47,7 +47,7 @@ loop-less : tie.Need-loop-less Inv-loop μ-loop
 loop-less c = search needs
 
 loop-again : tie.Need-loop-again Inv-loop μ-loop
-loop-again c = (omega arith, run-turn _ (c .before .before .before .before .args .at) _ _ (c .before .before .loop .inv .1) (c .byte .ensures .0))
+loop-again c = (omega arith, run-turn _ (c .before .before .before .before .args .at) _ _ (c .before .before .loop .inv .1) (c .byte-at .ensures .0))
 
 returns : tie.Need-returns Inv-loop μ-loop
 returns c = let e : c .before .loop .i ≡ c .before .before .before .args .count = omega arith in
@@ -62,8 +62,8 @@ run-at-spec =
     Inv-loop
     μ-loop
     loop-holds
-    add-byte
-    byte-requires
+    add-byte-at
+    byte-at-requires
     cast-bytes
     cast-bytes-2
     array-write-bytes

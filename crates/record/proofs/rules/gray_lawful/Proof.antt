@@ -1,6 +1,6 @@
 -- `gray_lawful`: each rule is a call, the gamma kept on its way into one.
 use Rattle.record.specs.Rules.{lawful}
-use Rattle.fixed.proofs.Signs.{came}
+use Rattle.fixed.proofs.Signs.{signed-within}
 use borrow.Author.Needs.{needs}
 use Rattle.record.proofs.rules.gray_lawful.Statement.{statement}
 use Rattle.record.proofs.rules.gray_lawful.Tie as tie
@@ -16,7 +16,10 @@ above-zero-requires c κs = search needs
 
 returns : tie.Need-returns
 unfolding lawful
-returns c = cc (came (c .before .before .before .before .before .before .args .g .gamma) (c .before .struct-told .given .1 .1 .0 .1))
+returns c =
+    let before-entry = c .before .before .before .before .before in
+    let entry = before-entry .before in
+    cc (signed-within (entry .args .g .gamma) (c .before .struct-told .given .1 .1 .0 .1))
 
 pub gray-lawful-spec : {M : Type 1} → statement M
 gray-lawful-spec =

@@ -2,7 +2,7 @@
 use mathlib.Core.Path.{ap, _∙_}
 use Rattle.record.specs.Rules.{supported}
 use Rattle.fixed.specs.Numbers.{gammaSupported}
-use Rattle.fixed.proofs.Signs.{came}
+use Rattle.fixed.proofs.Signs.{signed-within}
 use borrow.Author.Needs.{needs}
 use Rattle.record.proofs.rules.is_supported.Statement.{statement}
 use Rattle.record.proofs.rules.is_supported.Tie as tie
@@ -46,7 +46,7 @@ returns c = rw (c .enum-told .given .1)
 
 returns-2 : tie.Need-returns-2
 unfolding supported
-returns-2 c = rw (c .before .before .before .y .given .1) (c .is-gamma .ensures ∙ ap gammaSupported (came _ (c .before .struct-told .given .1 .1 .0 .1)))
+returns-2 c = rw (c .before .before .before .y .given .1) (c .is-gamma .ensures ∙ ap gammaSupported (signed-within _ (c .before .struct-told .given .1 .1 .0 .1)))
 
 returns-3 : tie.Need-returns-3
 unfolding supported

@@ -1,5 +1,5 @@
 -- `rgb_supported`: each gamma is a call, its number kept on the way into it.
-use Rattle.fixed.proofs.Signs.{came}
+use Rattle.fixed.proofs.Signs.{signed-within}
 use borrow.Author.Needs.{needs}
 use Rattle.record.proofs.rules.rgb_supported.Statement.{statement}
 use Rattle.record.proofs.rules.rgb_supported.Tie as tie
@@ -14,8 +14,11 @@ is-gamma-requires-3 : tie.Need-is-gamma-requires-3
 is-gamma-requires-3 c κs = search needs
 
 returns : tie.Need-returns
-returns c = let g = c .before .before .before .before .before .struct-told .given in
-    cc (came (c .before .before .before .before .before .before .args .t .x) (g .0 .1), came (c .before .before .before .before .before .before .args .t .y) (g .1 .0 .1), came (c .before .before .before .before .before .before .args .t .z) (g .1 .1 .0 .1))
+returns c =
+    let after-struct-told = c .before .before .before .before .before in
+    let entry = after-struct-told .before in
+    let g = after-struct-told .struct-told .given in
+    cc (signed-within (entry .args .t .x) (g .0 .1), signed-within (entry .args .t .y) (g .1 .0 .1), signed-within (entry .args .t .z) (g .1 .1 .0 .1))
 
 pub rgb-supported-spec : {M : Type 1} → statement M
 rgb-supported-spec =

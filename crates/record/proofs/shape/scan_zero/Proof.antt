@@ -19,12 +19,12 @@ abbrev μ-loop : tie.MeasureT-loop
 loop-holds : tie.Need-loop-holds Inv-loop μ-loop
 loop-holds c = passing-start _ _ _
 
-byte-requires : tie.Need-byte-requires Inv-loop μ-loop
-byte-requires c κs = search needs
+byte-at-requires : tie.Need-byte-at-requires Inv-loop μ-loop
+byte-at-requires c κs = search needs
 
 returns : tie.Need-returns Inv-loop μ-loop
 unfolding zeroBetween
-returns c = passing-stop _ _ _ _ (c .before .before .before .loop .inv) (c .before .before .loop-test .taken) (ne-eqb _ _ (λ z. c .if1 .taken (c .before .byte .ensures .0 ∙ z)))
+returns c = passing-stop _ _ _ _ (c .before .before .before .loop .inv) (c .before .before .loop-test .taken) (ne-eqb _ _ (λ z. c .if1 .taken (c .before .byte-at .ensures .0 ∙ z)))
 
 add-k : tie.Need-add-k Inv-loop μ-loop
 add-k c = search needs
@@ -33,7 +33,7 @@ loop-less : tie.Need-loop-less Inv-loop μ-loop
 loop-less c = search needs
 
 loop-again : tie.Need-loop-again Inv-loop μ-loop
-loop-again c = passing-turn _ _ _ _ (c .before .before .before .loop .inv) (c .before .before .loop-test .taken) (eq-eqb _ _ (sym (c .before .byte .ensures .0) ∙ c .if1 .left))
+loop-again c = passing-turn _ _ _ _ (c .before .before .before .loop .inv) (c .before .before .loop-test .taken) (eq-eqb _ _ (sym (c .before .byte-at .ensures .0) ∙ c .if1 .left))
 
 returns-2 : tie.Need-returns-2 Inv-loop μ-loop
 unfolding zeroBetween
@@ -46,7 +46,7 @@ scan-zero-spec =
     Inv-loop
     μ-loop
     loop-holds
-    byte-requires
+    byte-at-requires
     returns
     add-k
     loop-less

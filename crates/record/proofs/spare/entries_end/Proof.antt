@@ -8,7 +8,7 @@ use borrow.Author.Tests.{not-true, not-false}
 use Rattle.fixed.specs.Loops.{allBetween}
 use Rattle.fixed.specs.Values.{value}
 use Rattle.fixed.proofs.Scans.{Passing, passing-start, passing-turn, passing-stop, passing-end}
-use Rattle.fixed.proofs.Signs.{came}
+use Rattle.fixed.proofs.Signs.{signed-within}
 use Rattle.record.specs.Layout.{entriesOf}
 use Rattle.record.specs.Rules.{isZero, entriesEnd}
 use Rattle.record.specs.declared.types.Four.{Four}
@@ -54,7 +54,7 @@ returns c =
     let a = c .before .before .before .before .before .entries-of .result in
     ends _ _ (c .before .before .before .before .before .entries-of .ensures)
     (passing-stop (Zero a) _ _ (loop .k) (loop .inv) (c .before .before .before .loop-test .taken)
-    (ap isZero (sym (came (value a (loop .k)) (c .before .before .is-zero-arg .given))) ∙ sym (c .before .is-zero .ensures) ∙ not-true _ (c .if1 .taken)))
+    (ap isZero (sym (signed-within (value a (loop .k)) (c .before .before .is-zero-arg .given))) ∙ sym (c .before .is-zero .ensures) ∙ not-true _ (c .if1 .taken)))
 
 add-k : tie.Need-add-k Inv-loop μ-loop
 add-k c = search needs
@@ -67,7 +67,7 @@ loop-again c =
     let loop = c .before .before .before .before .loop in
     let a = c .before .before .before .before .before .entries-of .result in
     passing-turn (Zero a) _ _ (loop .k) (loop .inv) (c .before .before .before .loop-test .taken)
-    (ap isZero (sym (came (value a (loop .k)) (c .before .before .is-zero-arg .given))) ∙ sym (c .before .is-zero .ensures) ∙ not-false _ (c .if1 .left))
+    (ap isZero (sym (signed-within (value a (loop .k)) (c .before .before .is-zero-arg .given))) ∙ sym (c .before .is-zero .ensures) ∙ not-false _ (c .if1 .left))
 
 returns-2 : tie.Need-returns-2 Inv-loop μ-loop
 returns-2 c = ends _ _ (c .before .before .entries-of .ensures) (passing-end (Zero (c .before .before .entries-of .result)) _ _ _ (c .before .loop .inv) (c .loop-test .left))

@@ -1,7 +1,7 @@
 -- Each return of `end` is the branch of `ended` that its tests lead to; the closing step reads the first four values.
 use mathlib.Core.Path.{_∙_}
 use borrow.Author.Tests.{eq-eqb, ne-eqb}
-use Rattle.fixed.proofs.Signs.{came}
+use Rattle.fixed.proofs.Signs.{signed-within}
 use Rattle.cie.proofs.Closes.{closes}
 use Rattle.runner.specs.Runs.{ended}
 use borrow.Author.Needs.{needs}
@@ -40,8 +40,13 @@ close-requires c κs = search needs
 returns-3 : tie.Need-returns-3
 unfolding ended
 returns-3 c =
-    simp (eq-eqb _ _ (c .before .before .before .before .before .before .if1 .left), eq-eqb _ _ (c .before .before .before .before .before .if2 .left))
-    (c .close .ensures ∙ closes _ _ (came _ (c .before .before .before .before .close-arg .given)) (came _ (c .before .before .before .close-arg2 .given)) (came _ (c .before .before .close-arg3 .given)) (came _ (c .before .close-arg4 .given)))
+    let after-close-arg3 = c .before .before in
+    let after-close-arg2 = after-close-arg3 .before in
+    let after-close-arg = after-close-arg2 .before in
+    let after-if2 = after-close-arg .before in
+    let after-if1 = after-if2 .before in
+    simp (eq-eqb _ _ (after-if1 .if1 .left), eq-eqb _ _ (after-if2 .if2 .left))
+    (c .close .ensures ∙ closes _ _ (signed-within _ (after-close-arg .close-arg .given)) (signed-within _ (after-close-arg2 .close-arg2 .given)) (signed-within _ (after-close-arg3 .close-arg3 .given)) (signed-within _ (c .before .close-arg4 .given)))
 
 pub end-spec : {M : Type 1} → statement M
 end-spec =

@@ -1,5 +1,5 @@
 -- Each field is its word, once its bits are read back.
-use Rattle.fixed.proofs.Signs.{heard}
+use Rattle.fixed.proofs.Signs.{signed-is}
 use borrow.Author.Needs.{needs}
 use Rattle.runner.proofs.parse.gray_words.Statement.{statement}
 use Rattle.runner.proofs.parse.gray_words.Tie as tie
@@ -16,9 +16,9 @@ value-at-requires-3 c κs = search needs
 returns : tie.Need-returns
 returns c =
     λ i. record {
-      xw = heard _ (c .before .before .value-at .ok) (c .before .before .value-at .ensures) i;
-      zw = heard _ (c .before .value-at2 .ok) (c .before .value-at2 .ensures) i;
-      gamma = heard _ (c .value-at3 .ok) (c .value-at3 .ensures) i;
+      xw = signed-is _ (c .before .before .value-at .ok) (c .before .before .value-at .ensures) i;
+      zw = signed-is _ (c .before .value-at2 .ok) (c .before .value-at2 .ensures) i;
+      gamma = signed-is _ (c .value-at3 .ok) (c .value-at3 .ensures) i;
     }
 
 pub gray-words-spec : {M : Type 1} → statement M

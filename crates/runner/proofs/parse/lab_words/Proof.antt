@@ -1,5 +1,5 @@
 -- Each field is its word, once its bits are read back.
-use Rattle.fixed.proofs.Signs.{heard}
+use Rattle.fixed.proofs.Signs.{signed-is}
 use borrow.Author.Needs.{needs}
 use Rattle.runner.proofs.parse.lab_words.Statement.{statement}
 use Rattle.runner.proofs.parse.lab_words.Tie as tie
@@ -13,8 +13,8 @@ value-at-requires-2 c κs = search needs
 returns : tie.Need-returns
 returns c =
     λ i. record {
-      xw = heard _ (c .before .value-at .ok) (c .before .value-at .ensures) i;
-      zw = heard _ (c .value-at2 .ok) (c .value-at2 .ensures) i;
+      xw = signed-is _ (c .before .value-at .ok) (c .before .value-at .ensures) i;
+      zw = signed-is _ (c .value-at2 .ok) (c .value-at2 .ensures) i;
     }
 
 pub lab-words-spec : {M : Type 1} → statement M

@@ -2,7 +2,7 @@
 use mathlib.Core.Path.{refl, _∙_}
 use lib.Signed.{ltZ}
 use Rattle.fixed.proofs.Decide.{is-yes, is-no, lt-yes, lt-no}
-use Rattle.fixed.proofs.Signs.{heard}
+use Rattle.fixed.proofs.Signs.{signed-is}
 use Rattle.runner.specs.Steps.{limitRead}
 use Rattle.runner.specs.declared.Step.the-variants.{Limit}
 use Rattle.runner.specs.declared.Read.the-variants.{At}
@@ -36,18 +36,28 @@ is-below-requires c κs = search needs
 returns-3 : tie.Need-returns-3
 unfolding limitRead
 returns-3 c =
-    let lo = heard _ (c .before .before .before .value-at .ok) (c .before .before .before .value-at .ensures) in
-    let hi = heard _ (c .before .before .value-at2 .ok) (c .before .before .value-at2 .ensures) in
+    let after-value-at2 = c .before .before in
+    let after-value-at = after-value-at2 .before in
+    let after-if2 = after-value-at .before in
+    let after-small-at = after-if2 .before in
+    let after-if1 = after-small-at .before in
+    let lo = signed-is _ (after-value-at .value-at .ok) (after-value-at .value-at .ensures) in
+    let hi = signed-is _ (after-value-at2 .value-at2 .ok) (after-value-at2 .value-at2 .ensures) in
     let test = c .before .is-below .ensures ∙ (λ i. ltZ (hi i) (lo i)) in
-    lt-no _ _ _ _ _ refl (c .before .before .before .before .before .before .if1 .left) (lt-yes _ _ _ _ _ (c .before .before .before .before .before .small-at .ensures) (c .before .before .before .before .if2 .left) (is-yes _ _ _ _ test (c .if3 .taken) refl))
+    lt-no _ _ _ _ _ refl (after-if1 .if1 .left) (lt-yes _ _ _ _ _ (after-small-at .small-at .ensures) (after-if2 .if2 .left) (is-yes _ _ _ _ test (c .if3 .taken) refl))
 
 returns-4 : tie.Need-returns-4
 unfolding limitRead
 returns-4 c =
-    let lo = heard _ (c .before .before .before .value-at .ok) (c .before .before .before .value-at .ensures) in
-    let hi = heard _ (c .before .before .value-at2 .ok) (c .before .before .value-at2 .ensures) in
+    let after-value-at2 = c .before .before in
+    let after-value-at = after-value-at2 .before in
+    let after-if2 = after-value-at .before in
+    let after-small-at = after-if2 .before in
+    let after-if1 = after-small-at .before in
+    let lo = signed-is _ (after-value-at .value-at .ok) (after-value-at .value-at .ensures) in
+    let hi = signed-is _ (after-value-at2 .value-at2 .ok) (after-value-at2 .value-at2 .ensures) in
     let test = c .before .is-below .ensures ∙ (λ i. ltZ (hi i) (lo i)) in
-    lt-no _ _ _ _ _ refl (c .before .before .before .before .before .before .if1 .left) (lt-yes _ _ _ _ _ (c .before .before .before .before .before .small-at .ensures) (c .before .before .before .before .if2 .left) (is-no _ _ _ _ test (c .if3 .left) (λ i. At (Limit (c .before .before .before .before .before .small-at .ensures i) (lo i) (hi i)) 4)))
+    lt-no _ _ _ _ _ refl (after-if1 .if1 .left) (lt-yes _ _ _ _ _ (after-small-at .small-at .ensures) (after-if2 .if2 .left) (is-no _ _ _ _ test (c .if3 .left) (λ i. At (Limit (after-small-at .small-at .ensures i) (lo i) (hi i)) 4)))
 
 pub limit-read-spec : {M : Type 1} → statement M
 limit-read-spec =

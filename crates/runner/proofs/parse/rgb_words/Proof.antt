@@ -1,5 +1,5 @@
 -- Each field is its word, once its bits are read back.
-use Rattle.fixed.proofs.Signs.{heard}
+use Rattle.fixed.proofs.Signs.{signed-is}
 use borrow.Author.Needs.{needs}
 use Rattle.runner.proofs.parse.rgb_words.Statement.{statement}
 use Rattle.runner.proofs.parse.rgb_words.Tie as tie
@@ -42,19 +42,29 @@ value-at-requires-12 c κs = search needs
 
 returns : tie.Need-returns
 returns c =
+    let after-value-at10 = c .before .before in
+    let after-value-at9 = after-value-at10 .before in
+    let after-value-at8 = after-value-at9 .before in
+    let after-value-at7 = after-value-at8 .before in
+    let after-value-at6 = after-value-at7 .before in
+    let after-value-at5 = after-value-at6 .before in
+    let after-value-at4 = after-value-at5 .before in
+    let after-value-at3 = after-value-at4 .before in
+    let after-value-at2 = after-value-at3 .before in
+    let after-value-at = after-value-at2 .before in
     λ i. record {
-      ga = heard _ (c .before .before .before .before .before .before .before .before .before .before .before .value-at .ok) (c .before .before .before .before .before .before .before .before .before .before .before .value-at .ensures) i;
-      gb = heard _ (c .before .before .before .before .before .before .before .before .before .before .value-at2 .ok) (c .before .before .before .before .before .before .before .before .before .before .value-at2 .ensures) i;
-      gc = heard _ (c .before .before .before .before .before .before .before .before .before .value-at3 .ok) (c .before .before .before .before .before .before .before .before .before .value-at3 .ensures) i;
-      xa = heard _ (c .before .before .before .before .before .before .before .before .value-at4 .ok) (c .before .before .before .before .before .before .before .before .value-at4 .ensures) i;
-      ya = heard _ (c .before .before .before .before .before .before .before .value-at5 .ok) (c .before .before .before .before .before .before .before .value-at5 .ensures) i;
-      za = heard _ (c .before .before .before .before .before .before .value-at6 .ok) (c .before .before .before .before .before .before .value-at6 .ensures) i;
-      xb = heard _ (c .before .before .before .before .before .value-at7 .ok) (c .before .before .before .before .before .value-at7 .ensures) i;
-      yb = heard _ (c .before .before .before .before .value-at8 .ok) (c .before .before .before .before .value-at8 .ensures) i;
-      zb = heard _ (c .before .before .before .value-at9 .ok) (c .before .before .before .value-at9 .ensures) i;
-      xc = heard _ (c .before .before .value-at10 .ok) (c .before .before .value-at10 .ensures) i;
-      yc = heard _ (c .before .value-at11 .ok) (c .before .value-at11 .ensures) i;
-      zc = heard _ (c .value-at12 .ok) (c .value-at12 .ensures) i;
+      ga = signed-is _ (after-value-at .value-at .ok) (after-value-at .value-at .ensures) i;
+      gb = signed-is _ (after-value-at2 .value-at2 .ok) (after-value-at2 .value-at2 .ensures) i;
+      gc = signed-is _ (after-value-at3 .value-at3 .ok) (after-value-at3 .value-at3 .ensures) i;
+      xa = signed-is _ (after-value-at4 .value-at4 .ok) (after-value-at4 .value-at4 .ensures) i;
+      ya = signed-is _ (after-value-at5 .value-at5 .ok) (after-value-at5 .value-at5 .ensures) i;
+      za = signed-is _ (after-value-at6 .value-at6 .ok) (after-value-at6 .value-at6 .ensures) i;
+      xb = signed-is _ (after-value-at7 .value-at7 .ok) (after-value-at7 .value-at7 .ensures) i;
+      yb = signed-is _ (after-value-at8 .value-at8 .ok) (after-value-at8 .value-at8 .ensures) i;
+      zb = signed-is _ (after-value-at9 .value-at9 .ok) (after-value-at9 .value-at9 .ensures) i;
+      xc = signed-is _ (after-value-at10 .value-at10 .ok) (after-value-at10 .value-at10 .ensures) i;
+      yc = signed-is _ (c .before .value-at11 .ok) (c .before .value-at11 .ensures) i;
+      zc = signed-is _ (c .value-at12 .ok) (c .value-at12 .ensures) i;
     }
 
 pub rgb-words-spec : {M : Type 1} → statement M

@@ -24,14 +24,18 @@ abbrev μ-loop : tie.MeasureT-loop
 
 -- the step that was read in this turn
 known : (c : tie.After-known-told Inv-loop μ-loop)
-    → let a = c .before .before .before .before .before .before .args in
+    → let entry = c .before .before .before in
+    let a = entry .before .before .before .args in
     let w = c .before .before .before .before .before .loop in
     let s = c .before .s .given in
     Known (a .n) (a .count) (a .words .now) (w .at) (w .v) (s .0 .0) (s .0 .1 .0)
 known c =
-    let a = c .before .before .before .before .before .before .args in
-    let w = c .before .before .before .before .before .loop in
-    one-read _ _ (a .words .now) (w .at) _ (c .before .before .before .step-of .ensures) _ _ (c .before .s .given .1)
+    let after-step-of = c .before .before .before in
+    let turn = after-step-of .before .before in
+    let entry = turn .before in
+    let a = entry .args in
+    let w = turn .loop in
+    one-read _ _ (a .words .now) (w .at) _ (after-step-of .step-of .ensures) _ _ (c .before .s .given .1)
 
 -- a step that is not bound as a closing one does not close
 goes-on : (c : tie.At-match2-keys2 Inv-loop μ-loop) (k : Closing) → c .before .before .s .given .0 .0 ≡ Close k → ⊥
@@ -68,9 +72,12 @@ refused-requires c κs = search needs
 
 returns : tie.Need-returns Inv-loop μ-loop
 returns c =
-    let a = c .before .before .before .before .before .before .args in
-    let w = c .before .before .before .before .before .loop in
-    c .refused .ensures ∙ (none-read _ _ (a .words .now) (w .at) _ (c .before .before .before .step-of .ensures) (c .before .enum-told .given .1) ∙ w .inv .1)
+    let after-step-of = c .before .before .before in
+    let turn = after-step-of .before .before in
+    let entry = turn .before in
+    let a = entry .args in
+    let w = turn .loop in
+    c .refused .ensures ∙ (none-read _ _ (a .words .now) (w .at) _ (after-step-of .step-of .ensures) (c .before .enum-told .given .1) ∙ w .inv .1)
 
 enum-known-s-2 : tie.Need-enum-known-s-2 Inv-loop μ-loop
 enum-known-s-2 c = search needs
@@ -80,8 +87,12 @@ end-requires c κs = search needs
 
 returns-2 : tie.Need-returns-2 Inv-loop μ-loop
 returns-2 c =
-    let w = c .before .before .before .before .before .before .before .before .before .loop in
-    c .end .ensures ∙ (known (c .before .before .before .before) .ends _ (c .before .before .s2 .given .1) ∙ w .inv .1)
+    let after-s2 = c .before .before in
+    let after-before = after-s2 .before in
+    let before-turn = after-before .before .before .before .before .before in
+    let turn = before-turn .before in
+    let w = turn .loop in
+    c .end .ensures ∙ (known (after-before .before) .ends _ (after-s2 .s2 .given .1) ∙ w .inv .1)
 
 act-requires : tie.Need-act-requires Inv-loop μ-loop
 act-requires c κs = known (c .before) .range
@@ -94,8 +105,10 @@ loop-less c = let k = known (c .before .before) in omega arith
 
 loop-again : tie.Need-loop-again Inv-loop μ-loop
 loop-again c =
+    let before-turn = c .before .before .before .before .before in
+    let turn = before-turn .before .before in
     let k = known (c .before .before) in
-    let w = c .before .before .before .before .before .before .before .loop in
+    let w = turn .loop in
     (k .high, k .leaves _ (goes-on (c .before)) (c .act .ensures) ∙ w .inv .1)
 
 pub run-steps-spec : {M : Type 1} → statement M

@@ -1,8 +1,8 @@
 -- Each arm of the match is the case of `stepped`; what a step asks of its numbers is that they are in range.
 use mathlib.Core.Path.{_∙_, ap, sym, subst}
 use Rattle.fixed.specs.Values.{limitStep}
-use Rattle.fixed.proofs.Signs.{came}
-use Rattle.runner.specs.Ranges.{InRange}
+use Rattle.fixed.proofs.Signs.{signed-within}
+use Rattle.runner.specs.Ranges.{Bounded}
 use Rattle.runner.specs.Runs.{stepped}
 use borrow.Author.Needs.{needs}
 use Rattle.runner.proofs.steps.act.Statement.{statement}
@@ -12,19 +12,19 @@ enum-known-s : tie.Need-enum-known-s
 enum-known-s c = search needs
 
 limit-step-requires : tie.Need-limit-step-requires
-limit-step-requires c κs = subst InRange (c .before .s .given .1) (c .before .before .before .pre)
+limit-step-requires c κs = subst Bounded (c .before .s .given .1) (c .before .before .before .pre)
 
 enum-known-s-2 : tie.Need-enum-known-s-2
 enum-known-s-2 c = search needs
 
 row-step-requires : tie.Need-row-step-requires
-row-step-requires c κs = let r = subst InRange (c .before .s2 .given .1) (c .before .before .before .pre) in (r .1, r .2)
+row-step-requires c κs = let r = subst Bounded (c .before .s2 .given .1) (c .before .before .before .pre) in (r .1, r .2)
 
 enum-known-s-3 : tie.Need-enum-known-s-3
 enum-known-s-3 c = search needs
 
 tint-step-requires : tie.Need-tint-step-requires
-tint-step-requires c κs = let r = subst InRange (c .before .s3 .given .1) (c .before .before .before .pre) in r .3
+tint-step-requires c κs = let r = subst Bounded (c .before .s3 .given .1) (c .before .before .before .pre) in r .3
 
 enum-told : tie.Need-enum-told
 enum-told c = search needs
@@ -34,7 +34,7 @@ returns c =
     let a = c .before .before .before .before .args in
     let s = c .before .before .s .given in
     let told = c .before .known-told .given in
-    c .limit-step .ensures ∙ (λ i. limitStep (s .0 .0) (came (s .0 .1 .0) (told .1 .0 .1) i) (came (s .0 .1 .1 .0) (told .1 .1 .0 .1) i) (a .v)) ∙
+    c .limit-step .ensures ∙ (λ i. limitStep (s .0 .0) (signed-within (s .0 .1 .0) (told .1 .0 .1) i) (signed-within (s .0 .1 .1 .0) (told .1 .1 .0 .1) i) (a .v)) ∙
     ap (stepped (a .l .now) (a .v)) (sym (s .1))
 
 returns-2 : tie.Need-returns-2

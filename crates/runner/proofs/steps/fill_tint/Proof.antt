@@ -5,7 +5,7 @@ use native.Mathlib.Omega.{arith}
 use lib.IntN.{ℤ}
 use Rattle.fixed.specs.Numbers.{tintValue}
 use Rattle.fixed.specs.Values.{value, filled}
-use Rattle.fixed.proofs.Signs.{heard}
+use Rattle.fixed.proofs.Signs.{signed-is}
 use Rattle.fixed.proofs.Listed.{filled-turn}
 use borrow.Author.Needs.{needs}
 use Rattle.runner.proofs.steps.fill_tint.Statement.{statement}
@@ -55,9 +55,9 @@ loop-again : tie.Need-loop-again Inv-loop μ-loop
 loop-again c =
     let a = c .before .before .before .before .before .args in
     let f : ℕ → ℤ = λ j. tintValue (value (a .l .now) (3 + j)) (value (a .l .now) (3 + a .m + j)) (a .q) in
-    let c₀ = heard _ (c .before .before .value-at .ok) (c .before .before .value-at .ensures) in
-    let c₁ = heard _ (c .before .value-at2 .ok) (c .before .value-at2 .ensures) in
-    (omega arith, filled-turn f _ _ (c .before .before .before .before .loop .inv .1) (heard _ (c .tint-value .ok) (c .tint-value .ensures ∙ simp (c₀, c₁))))
+    let c₀ = signed-is _ (c .before .before .value-at .ok) (c .before .before .value-at .ensures) in
+    let c₁ = signed-is _ (c .before .value-at2 .ok) (c .before .value-at2 .ensures) in
+    (omega arith, filled-turn f _ _ (c .before .before .before .before .loop .inv .1) (signed-is _ (c .tint-value .ok) (c .tint-value .ensures ∙ simp (c₀, c₁))))
 
 returns : tie.Need-returns Inv-loop μ-loop
 returns c = let e : c .before .loop .k ≡ c .before .before .args .m = omega arith in c .before .loop .inv .1 ∙ rw e

@@ -3,7 +3,7 @@ use mathlib.Core.Path.{ap, _∙_}
 use lib.IntN.{ℤ}
 use lib.ListN.{set}
 use Rattle.fixed.specs.Values.{value, limitStep}
-use Rattle.fixed.proofs.Signs.{came, heard, back! }
+use Rattle.fixed.proofs.Signs.{signed-within, signed-is, signed-back}
 use borrow.Author.Needs.{needs}
 use Rattle.runner.proofs.steps.limit_step.Statement.{statement}
 use Rattle.runner.proofs.steps.limit_step.Tie as tie
@@ -28,7 +28,7 @@ unfolding limitStep
 returns c =
     let v = c .before .before .args .v in
     let k = c .before .before .args .k in
-    ap (λ (y : ℤ). set v k y) (heard _ (c .limit .ok) (c .limit .ensures ∙ simp (came (value v k) (c .before .limit-arg .given), back! (c .before .before .fits .lo), back! (c .before .before .fits .hi))))
+    ap (λ (y : ℤ). set v k y) (signed-is _ (c .limit .ok) (c .limit .ensures ∙ simp (signed-within (value v k) (c .before .limit-arg .given), signed-back (c .before .before .fits .lo), signed-back (c .before .before .fits .hi))))
 
 pub limit-step-spec : {M : Type 1} → statement M
 limit-step-spec =

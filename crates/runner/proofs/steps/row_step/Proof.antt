@@ -5,7 +5,7 @@ use native.Mathlib.Omega.{arith}
 use mir.Syntax.{w32}
 use mir.Val.{toZ, ofZ}
 use Rattle.fixed.specs.Values.{value}
-use Rattle.fixed.proofs.Signs.{came}
+use Rattle.fixed.proofs.Signs.{signed-within}
 use Rattle.fixed.proofs.Listed.{index-le}
 use Rattle.runner.proofs.Ranges.{row-start}
 use Rattle.runner.proofs.Acts.{row-picked}
@@ -42,7 +42,7 @@ returns : tie.Need-returns
 returns c =
     let a = c .before .before .before .args in
     c .fill-row .ensures ∙
-    row-picked (a .l .now) (a .t4) (a .m) (a .h) (c .before .round-index .result) _ (c .before .round-index .ensures) (came (value (a .t4) 0) (c .before .before .round-index-arg .given))
+    row-picked (a .l .now) (a .t4) (a .m) (a .h) (c .before .round-index .result) _ (c .before .round-index .ensures) (signed-within (value (a .t4) 0) (c .before .before .round-index-arg .given))
 
 pub row-step-spec : {M : Type 1} → statement M
 row-step-spec =

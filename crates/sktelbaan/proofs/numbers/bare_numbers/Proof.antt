@@ -1,6 +1,6 @@
 -- No number of its own: six times three zeros.
 use mathlib.Core.Path.{_∙_}
-use Rattle.fixed.proofs.Signs.{back! }
+use Rattle.fixed.proofs.Signs.{signed-back}
 use borrow.Author.Needs.{needs}
 use Rattle.sktelbaan.proofs.numbers.bare_numbers.Statement.{statement}
 use Rattle.sktelbaan.proofs.numbers.bare_numbers.Tie as tie
@@ -9,7 +9,7 @@ laid-requires : tie.Need-laid-requires
 laid-requires c κs = search needs
 
 returns : tie.Need-returns
-returns c = c .laid .ensures ∙ simp (back! (c .before .fits .kind))
+returns c = c .laid .ensures ∙ simp (signed-back (c .before .fits .kind))
 
 pub bare-numbers-spec : {M : Type 1} → statement M
 bare-numbers-spec = tie.close (tie.spec laid-requires returns)

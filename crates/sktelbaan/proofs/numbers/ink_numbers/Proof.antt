@@ -3,7 +3,7 @@ use mathlib.Core.Path.{_∙_}
 use native.Mathlib.Omega.{arith}
 use mir.Syntax.{w32}
 use mir.ValLaws.{toZ-pos}
-use Rattle.fixed.proofs.Signs.{came}
+use Rattle.fixed.proofs.Signs.{signed-within}
 use borrow.Author.Needs.{needs}
 use Rattle.sktelbaan.proofs.numbers.ink_numbers.Statement.{statement}
 use Rattle.sktelbaan.proofs.numbers.ink_numbers.Tie as tie
@@ -55,14 +55,14 @@ returns c =
       toZ-pos w32 (p .alternate) (omega (arith, k)),
       toZ-pos w32 (p .exponent) (omega (arith, k)),
       toZ-pos w32 (p .«name_len») (omega (arith, k)),
-      came (p .c0 .a) (t .0 .1),
-      came (p .c0 .b) (t .1 .0 .1),
-      came (p .c0 .c) (t .1 .1 .0 .1),
-      came (p .c0 .d) (t .1 .1 .1 .0 .1),
-      came (p .c1 .a) (u .0 .1),
-      came (p .c1 .b) (u .1 .0 .1),
-      came (p .c1 .c) (u .1 .1 .0 .1),
-      came (p .c1 .d) (u .1 .1 .1 .0 .1),
+      signed-within (p .c0 .a) (t .0 .1),
+      signed-within (p .c0 .b) (t .1 .0 .1),
+      signed-within (p .c0 .c) (t .1 .1 .0 .1),
+      signed-within (p .c0 .d) (t .1 .1 .1 .0 .1),
+      signed-within (p .c1 .a) (u .0 .1),
+      signed-within (p .c1 .b) (u .1 .0 .1),
+      signed-within (p .c1 .c) (u .1 .1 .0 .1),
+      signed-within (p .c1 .d) (u .1 .1 .1 .0 .1),
     )
 
 pub ink-numbers-spec : {M : Type 1} → statement M

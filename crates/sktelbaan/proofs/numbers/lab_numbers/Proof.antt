@@ -1,6 +1,6 @@
 -- White, black and the four numbers of the ranges, once their bits are read back, and zeros.
 use mathlib.Core.Path.{_∙_}
-use Rattle.fixed.proofs.Signs.{came}
+use Rattle.fixed.proofs.Signs.{signed-within}
 use borrow.Author.Needs.{needs}
 use Rattle.sktelbaan.proofs.numbers.lab_numbers.Statement.{statement}
 use Rattle.sktelbaan.proofs.numbers.lab_numbers.Tie as tie
@@ -26,10 +26,10 @@ returns c =
     ∙ simp (
       at-triple .triple .ensures,
       at-triple2 .triple2 .ensures,
-      came (q .amin) (t .0 .1),
-      came (q .amax) (t .1 .0 .1),
-      came (q .bmin) (t .1 .1 .0 .1),
-      came (q .bmax) (t .1 .1 .1 .0 .1),
+      signed-within (q .amin) (t .0 .1),
+      signed-within (q .amax) (t .1 .0 .1),
+      signed-within (q .bmin) (t .1 .1 .0 .1),
+      signed-within (q .bmax) (t .1 .1 .1 .0 .1),
     )
 
 pub lab-numbers-spec : {M : Type 1} → statement M

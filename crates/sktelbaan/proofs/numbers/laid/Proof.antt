@@ -7,7 +7,7 @@ use lib.IntN.{ℤ}
 use lib.Signed.{mag}
 use mir.Syntax.{w32}
 use mir.ValLaws.{toZ-pos}
-use Rattle.fixed.proofs.Signs.{came, back! }
+use Rattle.fixed.proofs.Signs.{signed-within, signed-back}
 use Rattle.record.proofs.Fours.{through}
 use Rattle.record.specs.declared.types.Triple.{Triple}
 use Rattle.sktelbaan.specs.Records.{three}
@@ -18,7 +18,7 @@ use Rattle.sktelbaan.proofs.numbers.laid.Tie as tie
 -- three numbers, before others
 back : (t : Triple) {zs ys : List ℤ} → mag (t .x) < 2 ^ 31 → mag (t .y) < 2 ^ 31 → mag (t .z) < 2 ^ 31 → zs ≡ ys
     → through (t .x) ∷ through (t .y) ∷ through (t .z) ∷ zs ≡ three t ys
-back t hx hy hz e = λ i. came (t .x) hx i ∷ came (t .y) hy i ∷ came (t .z) hz i ∷ e i
+back t hx hy hz e = λ i. signed-within (t .x) hx i ∷ signed-within (t .y) hy i ∷ signed-within (t .z) hz i ∷ e i
 
 cast-t9 : tie.Need-cast-t9
 cast-t9 c = search needs
@@ -44,7 +44,7 @@ returns c =
     (back _ (a .0 .1) (a .1 .0 .1) (a .1 .1 .0 .1)
     (back _ (b .0 .1) (b .1 .0 .1) (b .1 .1 .0 .1)
     (back _ (d .0 .1) (d .1 .0 .1) (d .1 .1 .0 .1) refl))))) in
-    λ i. toZ-pos w32 (start .args .own) (omega arith) i ∷ back! (start .fits .kind) i ∷ rest i
+    λ i. toZ-pos w32 (start .args .own) (omega arith) i ∷ signed-back (start .fits .kind) i ∷ rest i
 
 pub laid-spec : {M : Type 1} → statement M
 laid-spec = tie.close (tie.spec cast-t9 returns)

@@ -1,5 +1,5 @@
 -- Each field is its numbers.
-use Rattle.fixed.proofs.Signs.{heard}
+use Rattle.fixed.proofs.Signs.{signed-is}
 use borrow.Author.Needs.{needs}
 use Rattle.sktelbaan.proofs.records.gray_of.Statement.{statement}
 use Rattle.sktelbaan.proofs.records.gray_of.Tie as tie
@@ -14,7 +14,7 @@ value-at-requires : tie.Need-value-at-requires
 value-at-requires c κs = search needs
 
 returns : tie.Need-returns
-returns c = λ i. record { white = c .before .before .triple-of .ensures i; black = c .before .triple-of2 .ensures i; gamma = heard _ (c .value-at .ok) (c .value-at .ensures) i }
+returns c = λ i. record { white = c .before .before .triple-of .ensures i; black = c .before .triple-of2 .ensures i; gamma = signed-is _ (c .value-at .ok) (c .value-at .ensures) i }
 
 pub gray-of-spec : {M : Type 1} → statement M
 gray-of-spec = tie.close (tie.spec triple-of-requires triple-of-requires-2 value-at-requires returns)

@@ -54,7 +54,10 @@ words-in-add-result : (t : ℕ) → words-in-lts.Need-add-result (claims t) (wor
 words-in-add-result t c = search needs
 
 words-in-words-in-requires : (t : ℕ) → words-in-lts.Need-words-in-requires (claims t) (words-in-at t) words-in.Post
-words-in-words-in-requires t c κs = (omega (arith, ap rankIn (c .before .before .before .l2 .given .1), c .before .before .before .before .before .before .pre .0, c .before .plain-at .ensures .1), tt)
+words-in-words-in-requires t c κs =
+    let after-l2 = c .before .before .before in
+    let entry = after-l2 .before .before .before in
+    (omega (arith, ap rankIn (after-l2 .l2 .given .1), entry .pre .0, c .before .plain-at .ensures .1), tt)
 
 words-in-add-result-2 : (t : ℕ) → words-in-lts.Need-add-result-2 (claims t) (words-in-at t) words-in.Post
 words-in-add-result-2 t c = omega (arith, c .before .count .ensures .1, c .words-in .ensures .1, c .before .before .plain-at .ensures .1)
@@ -81,7 +84,10 @@ words-in-add-result-4 : (t : ℕ) → words-in-lts.Need-add-result-4 (claims t) 
 words-in-add-result-4 t c = omega (arith, few-entries (c .count2 .result) (c .before .before .before .l3 .given .0 .1 .1 .0) (c .count2 .ensures .1) (search needs))
 
 words-in-words-in-requires-2 : (t : ℕ) → words-in-lts.Need-words-in-requires-2 (claims t) (words-in-at t) words-in.Post
-words-in-words-in-requires-2 t c κs = (omega (arith, ap rankIn (c .before .before .before .l3 .given .1), c .before .before .before .before .before .before .pre .0, c .before .tinted-at .ensures .1), tt)
+words-in-words-in-requires-2 t c κs =
+    let after-l3 = c .before .before .before in
+    let entry = after-l3 .before .before .before in
+    (omega (arith, ap rankIn (after-l3 .l3 .given .1), entry .pre .0, c .before .tinted-at .ensures .1), tt)
 
 words-in-add-result-5 : (t : ℕ) → words-in-lts.Need-add-result-5 (claims t) (words-in-at t) words-in.Post
 words-in-add-result-5 t c = omega (arith, few-entries (c .before .count2 .result) (c .before .before .before .before .l3 .given .0 .1 .1 .0) (c .before .count2 .ensures .1) (search needs), c .words-in2 .ensures .1, c .before .before .tinted-at .ensures .1)

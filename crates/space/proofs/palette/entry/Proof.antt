@@ -4,7 +4,7 @@ use native.Mathlib.Omega.{arith}
 use mathlib.Core.Path.{_∙_}
 use Prim.Native.Nat.{_%_}
 use Rattle.fixed.specs.Values.{value}
-use Rattle.fixed.proofs.Signs.{came, heard}
+use Rattle.fixed.proofs.Signs.{signed-within, signed-is}
 use Rattle.space.proofs.Ends.{entry-is}
 use borrow.Author.Needs.{needs}
 use Rattle.space.proofs.palette.entry.Statement.{statement}
@@ -39,10 +39,10 @@ returns c =
     let args = c .before .before .before .before .before .args in
     let pre = c .before .before .before .before .before .pre in
     λ s r.
-    heard _ (c .palette-value .ok)
+    signed-is _ (c .palette-value .ok)
     (c .palette-value .ensures ∙
     entry-is _ _ (args .j) r (pre .1) (pre .2) _ _ _ (c .before .before .before .palette-byte .ensures .0)
-    (came (value (args .t4) (args .j % args .m)) (c .before .before .palette-value-arg .given)) (came (value (args .t5) (args .j % args .m)) (c .before .palette-value-arg2 .given)))
+    (signed-within (value (args .t4) (args .j % args .m)) (c .before .before .palette-value-arg .given)) (signed-within (value (args .t5) (args .j % args .m)) (c .before .palette-value-arg2 .given)))
 
 pub entry-spec : {M : Type 1} → statement M
 entry-spec =

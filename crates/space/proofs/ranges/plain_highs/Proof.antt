@@ -2,7 +2,7 @@
 use mathlib.Core.Path.{sym, _∙_}
 use mathlib.Core.List.{[], _∷_}
 use lib.IntN.{pos}
-use Rattle.fixed.proofs.Signs.{came}
+use Rattle.fixed.proofs.Signs.{signed-within}
 use Rattle.space.proofs.Ends.{lab-ends, unit-ends}
 use borrow.Author.Needs.{needs}
 use Rattle.space.proofs.ranges.plain_highs.Statement.{statement}
@@ -15,7 +15,7 @@ returns : tie.Need-returns
 returns c =
     let args = c .before .before .before .args in
     let told = c .struct-told .given in
-    (λ i. pos 100000000 ∷ came (args .q .amax) (told .1 .0 .1) i ∷ came (args .q .bmax) (told .1 .1 .1 .0 .1) i ∷ came (args .q .bmax) (told .1 .1 .1 .0 .1) i ∷ []) ∙
+    (λ i. pos 100000000 ∷ signed-within (args .q .amax) (told .1 .0 .1) i ∷ signed-within (args .q .bmax) (told .1 .1 .1 .0 .1) i ∷ signed-within (args .q .bmax) (told .1 .1 .1 .0 .1) i ∷ []) ∙
     lab-ends (args .q) (args .c) (sym (c .before .before .is-lab .ensures) ∙ c .before .if1 .taken) .1
 
 returns-2 : tie.Need-returns-2

@@ -1,0 +1,91 @@
+-- On an accepted page the space at every number, if it has components, is whole.
+use mathlib.Core.Path.{_≡_}
+use mathlib.Core.Bool.{true}
+use mathlib.Core.List.{List}
+use Prim.Native.Nat.{ℕ, _≤_, _<_}
+use native.Mathlib.Omega.{arith}
+use borrow.Author.Tests.{leb-true}
+use lib.Signed.{leZ}
+use Rattle.fixed.specs.Bytes.{blockAt}
+use Rattle.fixed.specs.Numbers.{gammaSupported}
+use Rattle.fixed.proofs.Decide.{and-left, and-right}
+use Rattle.fixed.proofs.Signs.{not-above}
+use Rattle.record.specs.Reading.{bodyAt}
+use Rattle.record.specs.Rules.{whitePoint, blackPoint, ordered, lawful, supported}
+use Rattle.record.specs.declared.types.Body.{Body}
+use Rattle.record.specs.declared.types.Body.the-variants.{Free, CalGray, CalRgb, Lab, Indexed, Separation, Palette}
+use Rattle.space.specs.Spaces.{Space, countOf}
+use Rattle.space.specs.Pages.{numbered, plainOf, plainAt, tintedOf, tintedAt, spaceOf, spaceAt}
+use Rattle.space.specs.WellMade.{WellMade, rankOf}
+use Rattle.space.proofs.Levels.{numbered-ind, body-rank, plain-rank}
+use Rattle.space.proofs.Counts.{table-length, c0-length, c1-length}
+use Rattle.page.specs.Outcomes.{accepted}
+use Rattle.page.specs.Validation.{permitted, validated}
+use Rattle.page.proofs.Accepted.{Fair, fair-at}
+use Rattle.page.proofs.Permits.{alternate-some, base-some}
+
+-- a space that is whole if it has components, and of a rank below r
+abbrev Sound : ℕ → Space → Type 0
+Sound r s = 1 ≤ countOf s → WellMade s × (rankOf s < r)
+
+-- of numbers whose blocks are sound the spaces are, device spaces among them
+sound-at : (r : ℕ) → 0 < r → (page : List ℕ) (f : Body → Space) (n : ℕ) → Sound r (f (bodyAt (blockAt page n))) → Sound r (numbered page f n)
+unfolding WellMade
+sound-at r l page f n h = numbered-ind (Sound r) (λ k. absurd (omega arith)) (λ _. (tt, l)) (λ _. (tt, l)) (λ _. (tt, l)) page f n h
+
+-- 5: each gamma is within the house limit; 4: amin <= amax, bmin <= bmax
+plain-sound : (page : List ℕ) (y : Body) → Fair page y → Sound 1 (plainOf y)
+unfolding lawful ordered supported plainOf WellMade
+plain-sound page Free w h = absurd (omega arith)
+plain-sound page (CalGray g) w h = (w .supported-is, omega arith)
+plain-sound page (CalRgb g) w h =
+    let s = w .supported-is in
+    let r = and-right (gammaSupported (g .gammas .x)) _ s in
+    ((and-left _ _ s, and-left _ _ r, and-right (gammaSupported (g .gammas .y)) _ r), omega arith)
+plain-sound page (Lab g) w h =
+    let q = g .range in
+    let r = and-right (blackPoint (g .black)) _ (and-right (whitePoint (g .white)) _ (w .lawful-is)) in
+    let a = leZ (q .amin) (q .amax) in
+    let b = leZ (q .bmin) (q .bmax) in
+    ((not-above (q .amin) (q .amax) (and-left a b r), not-above (q .bmin) (q .bmax) (and-right a b r)), omega arith)
+plain-sound page (Indexed base hival) w h = absurd (omega arith)
+plain-sound page (Separation p) w h = absurd (omega arith)
+plain-sound page Palette w h = absurd (omega arith)
+
+module _ (page : List ℕ) (fair : (n : ℕ) → Fair page (bodyAt (blockAt page n))) where
+  plain-at : (n : ℕ) → Sound 1 (plainAt page n)
+  plain-at n = sound-at 1 (omega arith) page plainOf n (plain-sound page _ (fair n))
+
+  -- 5: each exponent is within the house limit; 6: the alternate is of a kind permitted, and has components
+  tinted-sound : (y : Body) → Fair page y → Sound 2 (tintedOf page y)
+  unfolding supported permitted tintedOf WellMade
+  tinted-sound Free w h = let p = plain-sound page Free w h in (p .0, omega (arith, p .1))
+  tinted-sound (CalGray g) w h = let p = plain-sound page (CalGray g) w h in (p .0, omega (arith, p .1))
+  tinted-sound (CalRgb g) w h = let p = plain-sound page (CalRgb g) w h in (p .0, omega (arith, p .1))
+  tinted-sound (Lab g) w h = let p = plain-sound page (Lab g) w h in (p .0, omega (arith, p .1))
+  tinted-sound (Indexed base hival) w h = let p = plain-sound page (Indexed base hival) w h in (p .0, omega (arith, p .1))
+  tinted-sound (Separation p) w h =
+      let s = plainAt page (p .alternate) in
+      let i = plain-at (p .alternate) (alternate-some page (p .alternate) (w .permitted-is)) in
+      ((w .supported-is, c0-length p s, c1-length p s, i .1, i .0), omega arith)
+  tinted-sound Palette w h = let p = plain-sound page Palette w h in (p .0, omega (arith, p .1))
+
+  tinted-at : (n : ℕ) → Sound 2 (tintedAt page n)
+  tinted-at n = sound-at 2 (omega arith) page (tintedOf page) n (tinted-sound _ (fair n))
+
+  -- 4: hival 0 to 255; 6: the base is of a kind permitted, and has components
+  space-sound : (n : ℕ) (y : Body) → Fair page y → Sound 3 (spaceOf page n y)
+  unfolding lawful permitted spaceOf WellMade
+  space-sound n Free w h = let p = tinted-sound Free w h in (p .0, omega (arith, p .1))
+  space-sound n (CalGray g) w h = let p = tinted-sound (CalGray g) w h in (p .0, omega (arith, p .1))
+  space-sound n (CalRgb g) w h = let p = tinted-sound (CalRgb g) w h in (p .0, omega (arith, p .1))
+  space-sound n (Lab g) w h = let p = tinted-sound (Lab g) w h in (p .0, omega (arith, p .1))
+  space-sound n (Indexed base hival) w h =
+      let i = tinted-at base (base-some page base (w .permitted-is)) in
+      ((leb-true hival 255 (w .lawful-is), table-length page n hival (tintedAt page base), i .1, i .0), omega arith)
+  space-sound n (Separation p) w h = let q = tinted-sound (Separation p) w h in (q .0, omega (arith, q .1))
+  space-sound n Palette w h = let p = tinted-sound Palette w h in (p .0, omega (arith, p .1))
+
+-- every number, device codes among them, whose space has components: so all but those that are refused with 8
+pub well-made-at : (page : List ℕ) (n : ℕ) → validated page ≡ accepted → 1 ≤ countOf (spaceAt page n) → WellMade (spaceAt page n)
+well-made-at page n ok h = sound-at 3 (omega arith) page (spaceOf page n) n (space-sound page (fair-at page ok) n _ (fair-at page ok n)) h .0
