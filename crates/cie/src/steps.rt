@@ -1,6 +1,6 @@
 // Decode, CalGray and CalRGB.
 ghost use mathlib.Core.Path.{_≡_};
-ghost use Prim.Native.Nat.{_≤_};
+ghost use Prim.Native.Nat.{_≤_, _/_, _%_};
 ghost use Rattle.fixed.specs.Numbers.{mostTenths};
 ghost use Rattle.cie.specs.Steps.{tenthsOf, decodedWhole, decoded, whiteOf, matrixOf, grayXyz, rgbXyz};
 use crate::Xyz;
@@ -55,17 +55,17 @@ fn tenths(gamma: i32) -> u32
     p
 }
 
-// a to the power of a whole gamma.
-fn decode_whole(a: f64, units: u32) -> f64
-    ensures { λ r. ⌜ r ≡ decodedWhole a units ⌝ }
+// a to the power of a whole gamma of p tenths.
+fn decode_whole(a: f64, p: u32) -> f64
+    requires { ⌜ (p % 10 ≡ 0) × (p ≤ mostTenths) ⌝ }
+    ensures { λ r. ⌜ r ≡ decodedWhole a (p / 10) ⌝ }
 {
-    let mut r = a;
-    let mut k: u32 = 1;
-    while k < units {
-        r = r * a;
-        k += 1;
+    match p {
+        20 => a * a,
+        30 => a * a * a,
+        40 => a * a * a * a,
+        _ => a,
     }
-    r
 }
 
 // The component a decoded by a gamma, both in millionths. The component is as it stands.
@@ -74,7 +74,7 @@ pub fn decode(a: i32, gamma: i32) -> f64
 {
     let p = tenths(gamma);
     if p % 10 == 0 {
-        return decode_whole(float_of(a), p / 10);
+        return decode_whole(float_of(a), p);
     }
     decode_tenths(a, p)
 }

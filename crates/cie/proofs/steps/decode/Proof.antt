@@ -27,7 +27,7 @@ float-of-requires : tie.Need-float-of-requires
 float-of-requires c κs = search needs
 
 decode-whole-requires : tie.Need-decode-whole-requires
-decode-whole-requires c κs = search needs
+decode-whole-requires c κs = (c .before .if1 .taken, c .before .before .tenths .ensures .1)
 
 returns : tie.Need-returns
 returns c =
