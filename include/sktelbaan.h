@@ -12,8 +12,9 @@
  *     uint64_t reply = sktelbaan_evaluate(page, page_len, 0, colour, 1, floats);
  *     if (sktelbaan_refusal(reply) != 0)
  *         printf("refused: %s, block %u\n", sktelbaan_refusal_text(sktelbaan_refusal(reply)), sktelbaan_block(reply));
- *     else if (sktelbaan_value(reply) == SKTELBAAN_XYZ)
- *         printf("%.17g %.17g %.17g\n", floats[0], floats[1], floats[2]);
+ *     else
+ *         for (uint32_t i = 0; i < sktelbaan_floats(sktelbaan_value(reply)); i++)
+ *             printf("%.17g\n", floats[i]);
  *     reply = sktelbaan_write_recipe(page, page_len, 0, words, SKTELBAAN_MOST_WORDS);
  *     if (sktelbaan_refusal(reply) == 0)
  *         reply = sktelbaan_run(words, sktelbaan_value(reply), colour, 1, floats);
@@ -37,7 +38,7 @@ enum { SKTELBAAN_DEVICE_GRAY = 0xFF01, SKTELBAAN_DEVICE_RGB = 0xFF03, SKTELBAAN_
 uint64_t sktelbaan_validate(const uint8_t *page, size_t page_len) SKTELBAAN_NEVER_NULL;
 
 /* Evaluates a colour of the space at a number of a page, a block's number or a device code. Refuses with 1 to 9. Gives what the answer is in, and puts its
- * floats, in order, from the first of `floats` on; those beyond stay as they were. */
+ * floats, as many as sktelbaan_floats says, in order, from the first of `floats` on; those beyond stay as they were. */
 uint64_t sktelbaan_evaluate(const uint8_t *page, size_t page_len, uint32_t number, const int32_t *components, size_t count, double floats[4]) SKTELBAAN_NEVER_NULL;
 
 /* Writes the recipe of the space at a number of a page. Refuses with 1 to 8, then 10; SKTELBAAN_MOST_WORDS words are always enough. Gives how many words the

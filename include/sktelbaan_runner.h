@@ -94,8 +94,37 @@ static inline const char *sktelbaan_refusal_text(uint32_t refusal) {
     return refusal >= 1 && refusal <= 11 ? texts[refusal - 1] : "not a refusal of this library";
 }
 
-/* What an answer is in: the value of sktelbaan_run and sktelbaan_evaluate. It has one, three, four and three floats. */
-enum { SKTELBAAN_GRAY = 1, SKTELBAAN_RGB = 2, SKTELBAAN_CMYK = 3, SKTELBAAN_XYZ = 4 };
+/* What an answer is in: the value of sktelbaan_run and sktelbaan_evaluate. */
+enum sktelbaan_answers {
+    /* DeviceGray: one float. */
+    SKTELBAAN_GRAY = 1,
+    /* DeviceRGB: three floats, red, green, blue. */
+    SKTELBAAN_RGB = 2,
+    /* DeviceCMYK: four floats, cyan, magenta, yellow, black. */
+    SKTELBAAN_CMYK = 3,
+    /* CIE X, Y, Z: three floats. */
+    SKTELBAAN_XYZ = 4,
+    /* Nothing is to be marked: no float. This is the answer of a Separation named None, whatever its tint. */
+    SKTELBAAN_NO_MARK = 5,
+    /* Every ink that the device has, at one tint: one float, 0 to 1. This is the answer of a Separation named All. */
+    SKTELBAAN_EVERY_INK = 6
+};
+
+/* How many floats an answer has, by what it is in, the number that sktelbaan_value gives: 1, 3, 4, 3, 0 and 1, and 0 for any other number. */
+static inline uint32_t sktelbaan_floats(uint32_t value) {
+    switch (value) {
+    case SKTELBAAN_GRAY:
+    case SKTELBAAN_EVERY_INK:
+        return 1;
+    case SKTELBAAN_RGB:
+    case SKTELBAAN_XYZ:
+        return 3;
+    case SKTELBAAN_CMYK:
+        return 4;
+    default:
+        return 0;
+    }
+}
 
 /* How many words the longest recipe has. */
 enum { SKTELBAAN_MOST_WORDS = 1045 };
@@ -107,8 +136,8 @@ enum { SKTELBAAN_MOST_WORDS = 1045 };
 #define SKTELBAAN_NEVER_NULL
 #endif
 
-/* Runs a recipe, just its words, on the components of a colour. Refuses with 11, then 9. Gives what the answer is in, and puts its floats, in order, from
- * the first of `floats` on; those beyond stay as they were. */
+/* Runs a recipe, just its words, on the components of a colour. Refuses with 11, then 9. Gives what the answer is in, and puts its floats, as many as
+ * sktelbaan_floats says, in order, from the first of `floats` on; those beyond stay as they were. */
 uint64_t sktelbaan_run(const int32_t *words, size_t words_len, const int32_t *components, size_t count, double floats[4]) SKTELBAAN_NEVER_NULL;
 
 /* How NULL may be passed where a length is 0. In front of the library stands an inline function, which then lends an element of its own, and from here on

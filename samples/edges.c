@@ -1,5 +1,5 @@
-/* The edges of the C interface, checked: lists of none, the parts of a reply, refusals in words, sizes, a record of each kind. It is compiled as C and as C++, with the compiler's checks
- * of addresses and of undefined behaviour, and prints what is not as it should be. */
+/* The edges of the C interface, checked: lists of none, the parts of a reply, answers of each kind, refusals in words, sizes, a record of each kind. It is
+ * compiled as C and as C++, with the compiler's checks of addresses and of undefined behaviour, and prints what is not as it should be. */
 #include <stdio.h>
 #include <string.h>
 
@@ -75,6 +75,34 @@ static void replies(void) {
     expect("a refusal's reply", sktelbaan_refusal(reply) == SKTELBAAN_REFUSED_CHECK && sktelbaan_block(reply) == 1 && sktelbaan_value(reply) == 0);
 }
 
+/* A recipe of each closing step gives what it is in, and just as many floats as that has. */
+static void answers(void) {
+    static const struct {
+        uint32_t in, floats;
+        size_t words_len;
+        int32_t words[14];
+    } rows[] = {
+        {SKTELBAAN_GRAY, 1, 2, {4, 4}},
+        {SKTELBAAN_RGB, 3, 2, {4, 5}},
+        {SKTELBAAN_CMYK, 4, 2, {4, 6}},
+        {SKTELBAAN_XYZ, 3, 5, {4, 7, 1000000, 1000000, 1000000}},
+        {SKTELBAAN_XYZ, 3, 14, {4, 8, 1000000, 1000000, 1000000, 1000000, 0, 0, 0, 1000000, 0, 0, 0, 1000000}},
+        {SKTELBAAN_XYZ, 3, 4, {4, 9, 1000000, 1000000}},
+        {SKTELBAAN_NO_MARK, 0, 2, {4, 10}},
+        {SKTELBAAN_EVERY_INK, 1, 2, {4, 11}},
+    };
+    static const int32_t colour[4] = {500000, 500000, 500000, 500000};
+    for (size_t i = 0; i < sizeof rows / sizeof rows[0]; i++) {
+        double floats[4] = {-1, -1, -1, -1};
+        uint64_t reply = sktelbaan_run(rows[i].words, rows[i].words_len, colour, 4, floats);
+        expect("what an answer is in", sktelbaan_refusal(reply) == 0 && sktelbaan_value(reply) == rows[i].in);
+        expect("how many floats it has", sktelbaan_floats(rows[i].in) == rows[i].floats);
+        for (uint32_t k = 0; k < 4; k++)
+            expect("just its floats are put", (floats[k] != -1) == (k < rows[i].floats));
+    }
+    expect("the floats of no answer", sktelbaan_floats(0) == 0 && sktelbaan_floats(SKTELBAAN_EVERY_INK + 1) == 0 && sktelbaan_floats(UINT32_MAX) == 0);
+}
+
 /* Every refusal has a text of its own, and no other number has one. */
 static void texts(void) {
     const char *other = sktelbaan_refusal_text(0);
@@ -145,6 +173,7 @@ int main(void) {
     none();
     by_address();
     replies();
+    answers();
     texts();
     sizes();
     records();

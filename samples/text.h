@@ -29,17 +29,16 @@ static inline size_t read_components(char **from, int count, int32_t *components
 
 /* Prints a reply with its floats. A refusal's text goes to standard error. */
 static inline void print_reply(const char *what, uint64_t reply, const double floats[4]) {
-    static const char *const names[] = {"", "Gray", "RGB", "CMYK", "XYZ"};
-    static const int counts[] = {0, 1, 3, 4, 3};
+    static const char *const names[] = {"", "Gray", "RGB", "CMYK", "XYZ", "NoMark", "EveryInk"};
     uint32_t refusal = sktelbaan_refusal(reply);
     if (refusal != 0) {
         printf("%s refused %u block %u\n", what, (unsigned)refusal, (unsigned)sktelbaan_block(reply));
         fprintf(stderr, "%s: %s\n", what, sktelbaan_refusal_text(refusal));
         return;
     }
-    uint32_t space = sktelbaan_value(reply);
-    printf("%s %s", what, names[space]);
-    for (int i = 0; i < counts[space]; i++)
+    uint32_t in = sktelbaan_value(reply);
+    printf("%s %s", what, names[in]);
+    for (uint32_t i = 0; i < sktelbaan_floats(in); i++)
         printf(" %.17g", floats[i]);
     printf("\n");
 }

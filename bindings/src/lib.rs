@@ -50,6 +50,16 @@ pub const LONGEST: usize = 1045;
 /// assert_ne!(Answer::Gray(0.0), Answer::Gray(-0.0));
 /// assert_ne!(Answer::Rgb([0.0; 3]), Answer::Xyz([0.0; 3]));
 /// ```
+///
+/// A Separation named None marks nothing, and one named All is every ink of the device at one tint:
+///
+/// ```
+/// use sktelbaan::{evaluate, Answer};
+/// let page = include_bytes!("../../samples/marks.page");
+/// assert_eq!(evaluate(page, 0, &[250_000])?, Answer::NoMark);
+/// assert_eq!(evaluate(page, 1, &[250_000])?, Answer::EveryInk(0.25));
+/// # Ok::<(), sktelbaan::Refusal>(())
+/// ```
 #[derive(Clone, Copy, Debug)]
 pub enum Answer {
     /// DeviceGray.
@@ -60,15 +70,27 @@ pub enum Answer {
     Cmyk([f64; 4]),
     /// CIE X, Y, Z.
     Xyz([f64; 3]),
+    /// Nothing is to be marked: the answer of a Separation named None. It has no float.
+    NoMark,
+    /// Every ink of the device, at this tint: the answer of a Separation named All.
+    EveryInk(f64),
 }
 
 impl Answer {
-    /// The floats, in order.
+    /// The floats, in order: one, three or four of them, or none.
+    ///
+    /// ```
+    /// use sktelbaan::Answer;
+    /// assert_eq!(Answer::Rgb([0.25, 1.0, 0.0]).floats(), [0.25, 1.0, 0.0]);
+    /// assert_eq!(Answer::EveryInk(0.5).floats(), [0.5]);
+    /// assert!(Answer::NoMark.floats().is_empty());
+    /// ```
     pub fn floats(&self) -> &[f64] {
         match self {
-            Answer::Gray(v) => std::slice::from_ref(v),
+            Answer::Gray(v) | Answer::EveryInk(v) => std::slice::from_ref(v),
             Answer::Rgb(v) | Answer::Xyz(v) => v,
             Answer::Cmyk(v) => v,
+            Answer::NoMark => &[],
         }
     }
 }
@@ -87,13 +109,15 @@ impl PartialEq for Answer {
 impl Eq for Answer {}
 
 impl fmt::Display for Answer {
-    /// The space and its floats, as `XYZ 0.9505 1 1.089`.
+    /// What it is in and its floats, as `XYZ 0.9505 1 1.089` or `NoMark`.
     fn fmt(&self, f: &mut fmt::Formatter<'_>) -> fmt::Result {
         f.write_str(match self {
             Answer::Gray(_) => "Gray",
             Answer::Rgb(_) => "RGB",
             Answer::Cmyk(_) => "CMYK",
             Answer::Xyz(_) => "XYZ",
+            Answer::NoMark => "NoMark",
+            Answer::EveryInk(_) => "EveryInk",
         })?;
         self.floats().iter().try_for_each(|v| write!(f, " {v}"))
     }
@@ -171,7 +195,9 @@ fn answer(reply: u64, floats: [f64; 4]) -> Result<Answer, Refusal> {
         2 => Answer::Rgb([a, b, c]),
         3 => Answer::Cmyk(floats),
         4 => Answer::Xyz([a, b, c]),
-        other => unreachable!("an answer is in one of four spaces, not in {other}"),
+        5 => Answer::NoMark,
+        6 => Answer::EveryInk(a),
+        other => unreachable!("an answer is one of six, not {other}"),
     })
 }
 
@@ -339,6 +365,8 @@ mod tests {
         assert_eq!(run_into(&[4, 6], &[half; 4]), (3 << 32, [0.5; 4]));
         let (reply, floats) = run_into(&[1, 7, 0, 0, 1_000_000], &[half]);
         assert_eq!((reply, floats), (4 << 32, [0.0, 0.5, 0.0, d]));
+        assert_eq!(run_into(&[2, 10], &[half; 2]), (5 << 32, MARKS));
+        assert_eq!(run_into(&[1, 11], &[half]), (6 << 32, [0.5, b, c, d]));
         assert_eq!(run_into(&[1, 4], &[]), (9, MARKS));
         assert_eq!(run_into(&[1, 4, 4], &[half]), (11, MARKS));
         assert_eq!(run_into(&[], &[]), (11, MARKS));
@@ -391,6 +419,10 @@ mod tests {
         let white = Answer::Xyz([0.9505, 1.0, 1.089]);
         assert_eq!(white.to_string(), "XYZ 0.9505 1 1.089");
         assert_eq!(Answer::Gray(-0.0).to_string(), "Gray -0");
+        assert_eq!(Answer::NoMark.to_string(), "NoMark");
+        assert_eq!(Answer::EveryInk(0.25).to_string(), "EveryInk 0.25");
+        assert_eq!(Answer::NoMark, Answer::NoMark);
+        assert_ne!(Answer::EveryInk(0.5), Answer::Gray(0.5));
         assert_eq!(Answer::Gray(f64::NAN), Answer::Gray(f64::NAN));
         assert_ne!(Answer::Cmyk([0.0; 4]), Answer::Cmyk([0.0, 0.0, 0.0, -0.0]));
         let meanings: std::collections::HashSet<_> = (0..=11)
@@ -433,6 +465,19 @@ mod tests {
             );
         }
         assert!(HEADERS.contains(&format!("SKTELBAAN_MOST_WORDS = {LONGEST} ")));
+        for (name, number) in [
+            ("SKTELBAAN_GRAY", 1),
+            ("SKTELBAAN_RGB", 2),
+            ("SKTELBAAN_CMYK", 3),
+            ("SKTELBAAN_XYZ", 4),
+            ("SKTELBAAN_NO_MARK", 5),
+            ("SKTELBAAN_EVERY_INK", 6),
+        ] {
+            assert!(
+                HEADERS.contains(&format!("    {name} = {number}")),
+                "{name}"
+            );
+        }
         let version = concat!(
             "#define SKTELBAAN_VERSION \"",
             env!("CARGO_PKG_VERSION"),

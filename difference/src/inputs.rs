@@ -159,7 +159,7 @@ fn random_words(rng: &mut Rng) -> Vec<i32> {
     };
     let word = |rng: &mut Rng| match rng.below(3) {
         0 => rng.number(),
-        _ => rng.between(0, 9),
+        _ => rng.between(0, 12),
     };
     (0..length).map(|_| word(rng)).collect()
 }

@@ -215,6 +215,8 @@ fn answer_of(answer: Expected) -> Reply<Answer> {
         Expected::Rgb(v) => Answer::Rgb(v),
         Expected::Cmyk(v) => Answer::Cmyk(v),
         Expected::Xyz(v) => Answer::Xyz(v),
+        Expected::NoMark => Answer::NoMark,
+        Expected::EveryInk(v) => Answer::EveryInk(v),
         Expected::Refused { number, block } => return Err(Refusal { number, block }),
     })
 }

@@ -178,6 +178,40 @@ fn faults_in_one_place_are_caught() {
         ..REFERENCE
     };
     assert!(caught(&unsigned)[3]);
+    // Leaves a mark where there is to be none.
+    let marking = Library {
+        evaluate: |page, number, components| {
+            (REFERENCE.evaluate)(page, number, components).map(marked)
+        },
+        run: |words, components| (REFERENCE.run)(words, components).map(marked),
+        ..REFERENCE
+    };
+    assert_eq!(caught(&marking), [false, true, true, true]);
+    // Takes every ink for Gray.
+    let gray = Library {
+        evaluate: |page, number, components| {
+            (REFERENCE.evaluate)(page, number, components).map(grayed)
+        },
+        run: |words, components| (REFERENCE.run)(words, components).map(grayed),
+        ..REFERENCE
+    };
+    assert_eq!(caught(&gray), [false, true, true, true]);
+}
+
+/// An answer that always marks.
+fn marked(answer: Answer) -> Answer {
+    match answer {
+        Answer::NoMark => Answer::EveryInk(0.0),
+        other => other,
+    }
+}
+
+/// An answer in which every ink is Gray.
+fn grayed(answer: Answer) -> Answer {
+    match answer {
+        Answer::EveryInk(v) => Answer::Gray(v),
+        other => other,
+    }
 }
 
 #[test]

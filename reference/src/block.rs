@@ -31,7 +31,7 @@ pub(crate) const BODY_AT: usize = 4;
 /// Where the check begins.
 const CHECK_AT: usize = 508;
 /// Where a Separation's name begins.
-const NAME_AT: usize = 8;
+pub(crate) const NAME_AT: usize = 8;
 
 /// What a block records, by its kind.
 #[derive(Clone, Copy, Debug, PartialEq, Eq)]

@@ -14,6 +14,9 @@
 //! | 33 | count COMPONENTS xWORDS | the answer of a recipe, whose words have four bytes each |
 //! | 34 | xPAGE | the listing, its lines joined by `; ` |
 //!
+//! An answer is what it is in, `Gray`, `RGB`, `CMYK`, `XYZ`, `NoMark` or `EveryInk`, and its floats, 16 hexadecimal
+//! digits each; or `refused N block B`.
+//!
 //! A record is its own number, its kind and the body's numbers in the paper's order (base hival; alternate
 //! exponent name-length C0 C1), then bytes: read, a Separation's 128 name places or a palette's 504; to be
 //! written, the first of the record's 504 places, those missing being zero.
@@ -27,6 +30,7 @@ mod format;
 mod forms;
 mod interpreter;
 mod maker;
+mod marks;
 mod numbers;
 mod pages;
 mod paper;
@@ -38,7 +42,7 @@ mod tests;
 pub use format::{answer_text, dotted, float_text, hex_of, Case};
 
 /// All the worked cases, in the order in which they are put to the program: the paper's own, numbers and steps,
-/// one block by itself, pages, and colours with their recipes.
+/// one block by itself, pages, colours with their recipes, and the Separations None and All.
 pub fn all() -> Vec<Case> {
     let groups = [
         paper::cases,
@@ -49,6 +53,7 @@ pub fn all() -> Vec<Case> {
         colours::cases,
         recipes::cases,
         runs::cases,
+        marks::cases,
     ];
     groups.iter().flat_map(|make| make()).collect()
 }

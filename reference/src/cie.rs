@@ -3,7 +3,8 @@
 use crate::gamma::decode;
 use crate::numbers::float_of;
 
-/// "An answer is one of Gray, RGB, CMYK or XYZ with its floats, or a refusal."
+/// "An answer is one of Gray, RGB, CMYK or XYZ with its floats, or a refusal"; by document 02 also "no mark", or "every
+/// ink" with one float.
 /// Two answers are the same when every float has the same bits (so 0 and -0 differ).
 #[derive(Clone, Copy, Debug)]
 pub enum Answer {
@@ -15,6 +16,10 @@ pub enum Answer {
     Cmyk([f64; 4]),
     /// The CIE tristimulus values X, Y, Z.
     Xyz([f64; 3]),
+    /// "No mark": the answer of a Separation named None, with no float.
+    NoMark,
+    /// "Every ink": the answer of a Separation named All, with its tint.
+    EveryInk(f64),
     /// A refusal with its number in the paper's table and the block it was found in (0 where none is meant).
     Refused {
         /// The refusal's number, 1 to 11.
@@ -32,7 +37,10 @@ fn same<const N: usize>(a: &[f64; N], b: &[f64; N]) -> bool {
 impl PartialEq for Answer {
     fn eq(&self, other: &Self) -> bool {
         match (self, other) {
-            (Answer::Gray(a), Answer::Gray(b)) => a.to_bits() == b.to_bits(),
+            (Answer::Gray(a), Answer::Gray(b)) | (Answer::EveryInk(a), Answer::EveryInk(b)) => {
+                a.to_bits() == b.to_bits()
+            }
+            (Answer::NoMark, Answer::NoMark) => true,
             (Answer::Rgb(a), Answer::Rgb(b)) | (Answer::Xyz(a), Answer::Xyz(b)) => same(a, b),
             (Answer::Cmyk(a), Answer::Cmyk(b)) => same(a, b),
             (
@@ -121,6 +129,10 @@ mod tests {
         assert_eq!(Answer::Gray(0.5), Answer::Gray(0.5));
         assert_eq!(Answer::Gray(f64::NAN), Answer::Gray(f64::NAN));
         assert_ne!(Answer::Rgb([0.0; 3]), Answer::Xyz([0.0; 3]));
+        assert_ne!(Answer::EveryInk(0.0), Answer::EveryInk(-0.0));
+        assert_ne!(Answer::EveryInk(0.5), Answer::Gray(0.5));
+        assert_eq!(Answer::NoMark, Answer::NoMark);
+        assert_ne!(Answer::NoMark, Answer::EveryInk(0.0));
         assert_ne!(Answer::Cmyk([0.0; 4]), Answer::Cmyk([0.0, 0.0, 0.0, -0.0]));
         let refused = Answer::Refused {
             number: 2,

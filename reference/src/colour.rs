@@ -1,10 +1,10 @@
-//! Answering a colour on a page: document 01's "Colour steps".
+//! Answering a colour on a page: document 01's "Colour steps", and document 02's None and All.
 
 use crate::block::Body;
 use crate::cie::{cal_gray, cal_rgb, lab, Answer};
 use crate::gamma::tenths;
-use crate::numbers::{float_of, index, limit, palette_value, tint_power, tint_value};
-use crate::page::{body_at, components, family, palette_byte, ranges, validate, Family};
+use crate::numbers::{float_of, index, limit, palette_value, tint_power, tint_value, ONE};
+use crate::page::{body_at, components, family, name_at, palette_byte, ranges, validate, Family};
 
 /// The refusal that belongs to no block.
 pub(crate) fn refused(number: u32) -> Answer {
@@ -33,6 +33,26 @@ pub fn evaluate(page: &[u8], number: u32, colour: &[i32]) -> Answer {
 /// The colour steps in the space that a number asks for, on an accepted page that has it: `evaluate` sees to both. "So
 /// nesting falls at each step": each call of itself is for the inner space, and the rank Indexed, Separation, plain falls.
 pub fn answer(page: &[u8], number: u32, values: [i32; 4]) -> Answer {
+    match (body_at(page, number), name_at(page, number)) {
+        (Some(Body::Indexed { base, hival }), _) => {
+            let base = u32::from(base);
+            let row = index(values[0], hival.min(255) as u8);
+            answer(page, base, row_of(page, number, base, row))
+        }
+        // "A Separation named exactly None now answers "no mark", one named All answers "every ink" with the limited
+        // tint's float."
+        (_, Some(b"None")) => Answer::NoMark,
+        (_, Some(b"All")) => Answer::EveryInk(float_of(limit(values[0], 0, ONE))),
+        (Some(body @ Body::Separation { alternate, .. }), _) => {
+            let tint = limit(values[0], 0, ONE);
+            answer(page, u32::from(alternate), tinted(&body, tint))
+        }
+        _ => plain(page, number, values),
+    }
+}
+
+/// The colour steps in a space that has no inner one.
+fn plain(page: &[u8], number: u32, values: [i32; 4]) -> Answer {
     let [a, b, c, d] = limited(page, number, values);
     match (family(page, number), body_at(page, number)) {
         // "Device. The float of each component."
@@ -49,14 +69,6 @@ pub fn answer(page: &[u8], number: u32, values: [i32; 4]) -> Answer {
         (_, Some(Body::Lab { white, .. })) => {
             let [xw, _, zw] = white;
             Answer::Xyz(lab(xw, zw, a, b, c))
-        }
-        (_, Some(Body::Indexed { base, hival })) => {
-            let base = u32::from(base);
-            let row = index(values[0], hival.min(255) as u8);
-            answer(page, base, row_of(page, number, base, row))
-        }
-        (_, Some(body @ Body::Separation { alternate, .. })) => {
-            answer(page, u32::from(alternate), tinted(&body, a))
         }
         _ => refused(8),
     }

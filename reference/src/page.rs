@@ -2,7 +2,7 @@
 
 use crate::block::{
     check_holds, form_holds, Body, BLOCK, BODY, BODY_AT, DEVICE_CMYK, DEVICE_GRAY, DEVICE_RGB,
-    MOST_BLOCKS,
+    MOST_BLOCKS, NAME_AT,
 };
 use crate::numbers::{read_two, ONE};
 
@@ -91,6 +91,15 @@ pub fn family(page: &[u8], number: u32) -> Option<Family> {
     } else {
         Family::of_kind(block_at(page, number as usize)?[0])
     }
+}
+
+/// The bytes of a Separation's name, as many as its length says; none where the number asks for no Separation.
+pub fn name_at(page: &[u8], number: u32) -> Option<&[u8]> {
+    let Some(Body::Separation { name_length, .. }) = body_at(page, number) else {
+        return None;
+    };
+    let block = block_at(page, number as usize)?;
+    block[NAME_AT..].get(..usize::from(name_length))
 }
 
 /// How many components a colour has in the space that a number asks for; none where there is no such space.

@@ -2,7 +2,7 @@
 
 use crate::block::Body;
 use crate::numbers::palette_value;
-use crate::page::{body_at, components, family, palette_byte, ranges, validate, Family};
+use crate::page::{body_at, components, family, name_at, palette_byte, ranges, validate, Family};
 
 /// "A recipe longer than 1,045 words is ill-formed."
 pub const MOST_WORDS: usize = 1045;
@@ -32,6 +32,12 @@ pub fn write(page: &[u8], number: u32, words: &mut [i32]) -> Result<usize, (u32,
 
 /// A space's steps, closing step and all.
 fn steps(page: &[u8], number: u32) -> Vec<i32> {
+    // Document 02: "None is the words 1, 10; All is 1, the limit, 11."
+    match name_at(page, number) {
+        Some(b"None") => return vec![10],
+        Some(b"All") => return [limits(page, number), vec![11]].concat(),
+        _ => {}
+    }
     match body_at(page, number) {
         Some(Body::Indexed { base, hival }) => {
             let base = u32::from(base);

@@ -91,6 +91,16 @@ pub fn separation(number: u16, alternate: u16, exponent: u8, c0: [i32; 4], c1: [
     made
 }
 
+/// The same Separation under another name, of up to 127 bytes.
+pub fn named(mut separation: Record, name: &[u8]) -> Record {
+    separation.bytes = [0; BODY];
+    separation.bytes[..name.len()].copy_from_slice(name);
+    if let Body::Separation { name_length, .. } = &mut separation.body {
+        *name_length = name.len() as u8;
+    }
+    separation
+}
+
 /// A palette block with these first bytes, as many of them as it holds.
 pub fn palette(number: u16, bytes: &[u8]) -> Record {
     let mut made = record(number, Body::Palette);

@@ -79,6 +79,10 @@ pub enum Closing {
         /// The white point's Z.
         zw: i32,
     },
+    /// Document 02's 10: no mark.
+    NoMark,
+    /// Document 02's 11: every ink.
+    EveryInk,
 }
 
 /// A word that is to be 1..4; none for any other.
@@ -110,6 +114,7 @@ pub fn step(words: &[i32]) -> Option<(Step<'_>, &[i32])> {
 
 /// The closing step that these words are, all of them; none where they are not one. "Gammas as the house limit", by
 /// document 02 in tenths: "the runner and the demands take the same gammas"; "words given no bound here may be any."
+/// Document 02 too: "the runner gains 10 and 11", which are their own number and no word more.
 pub fn closing(words: &[i32]) -> Option<Closing> {
     match *words {
         [4] => Some(Closing::Gray),
@@ -125,6 +130,8 @@ pub fn closing(words: &[i32]) -> Option<Closing> {
             Some(Closing::CalRgb { gammas, matrix })
         }
         [9, xw, zw] => Some(Closing::Lab { xw, zw }),
+        [10] => Some(Closing::NoMark),
+        [11] => Some(Closing::EveryInk),
         _ => None,
     }
 }
@@ -191,5 +198,7 @@ pub fn close(closing: &Closing, values: [i32; 4]) -> Answer {
         Closing::CalGray { xw, zw, gamma } => Answer::Xyz(cal_gray(xw, zw, gamma, a)),
         Closing::CalRgb { gammas, matrix } => Answer::Xyz(cal_rgb(gammas, matrix, [a, b, c])),
         Closing::Lab { xw, zw } => Answer::Xyz(lab(xw, zw, a, b, c)),
+        Closing::NoMark => Answer::NoMark,
+        Closing::EveryInk => Answer::EveryInk(float_of(a)),
     }
 }

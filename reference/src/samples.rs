@@ -6,7 +6,7 @@ use crate::colour::evaluate;
 use crate::listing::list;
 use crate::numbers::ONE;
 use crate::recipe::recipe_of;
-use crate::records::{cal_gray, cal_rgb, free, indexed_run, lab, page, separation, USUAL};
+use crate::records::{cal_gray, cal_rgb, free, indexed_run, lab, named, page, separation, USUAL};
 use crate::runner::run;
 
 /// A page to try.
@@ -77,6 +77,14 @@ fn full_page() -> Vec<u8> {
     page(&records)
 }
 
+/// The two Separations that are no inks, each with an Indexed space over it.
+fn marks_page() -> Vec<u8> {
+    let mut records = vec![named(gold(0, 1), b"None"), named(gold(1, 1), b"All")];
+    records.extend(indexed_run(2, 0, 3, &[0, 85, 170, 255]));
+    records.extend(indexed_run(4, 1, 3, &[0, 85, 170, 255]));
+    page(&records)
+}
+
 /// All the samples.
 pub fn all() -> Vec<Sample> {
     let gray = page(&[cal_gray(0, ONE)]);
@@ -119,6 +127,11 @@ pub fn all() -> Vec<Sample> {
             page(&[gold(0, 1)]),
         ),
         sample(
+            "marks",
+            "The Separations that are no inks, over DeviceCMYK: None (block 0), which leaves no mark, and All (block 1), which is every ink; an Indexed space over None (block 2) and one over All (block 4).",
+            marks_page(),
+        ),
+        sample(
             "large",
             "An Indexed space over DeviceCMYK with hival 255: 1,024 palette bytes in three blocks, and the longest recipe.",
             page(&indexed_run(0, DEVICE_CMYK, 255, &palette_bytes(1024))),
@@ -155,6 +168,10 @@ const COLOURS: &[(&str, u32, &[i32])] = &[
     ("lab", 0, &[50 * ONE, 20 * ONE, -30 * ONE]),
     ("indexed", 0, &[5 * ONE]),
     ("separation", 0, &[500_000]),
+    ("marks", 0, &[500_000]),
+    ("marks", 1, &[250_000]),
+    ("marks", 2, &[ONE]),
+    ("marks", 4, &[ONE]),
     ("large", 0, &[181 * ONE]),
     ("nested", 0, &[2_500_000]),
     ("nested", 2, &[ONE]),
@@ -195,10 +212,13 @@ fn answer_text(answer: &Answer) -> String {
         Answer::Rgb(v) => ("RGB", v),
         Answer::Cmyk(v) => ("CMYK", v),
         Answer::Xyz(v) => ("XYZ", v),
+        Answer::NoMark => ("NoMark", &[]),
+        Answer::EveryInk(v) => ("EveryInk", std::slice::from_ref(v)),
         Answer::Refused { number, block } => return format!("refused {number} block {block}"),
     };
-    let floats: Vec<String> = floats.iter().map(|v| float_text(*v)).collect();
-    format!("{name} {}", floats.join(" "))
+    floats.iter().fold(name.to_string(), |text, v| {
+        format!("{text} {}", float_text(*v))
+    })
 }
 
 /// The text that the C program prints for the colours to try, each after the words that it is started with.
@@ -280,5 +300,7 @@ mod tests {
         assert_eq!(text.lines().count(), 4 * COLOURS.len());
         assert!(!text.contains("refused"));
         assert!(text.contains("\npage XYZ 0.95050000000000001 1 1.089\n"));
+        assert!(text.contains("\npage NoMark\nrecipe of 2 words\nrun NoMark\n"));
+        assert!(text.contains("\npage EveryInk 0.25\nrecipe of 6 words\nrun EveryInk 0.25\n"));
     }
 }

@@ -8,7 +8,7 @@ use reference::cie::Answer;
 use reference::colour::evaluate;
 use reference::generate::{damage, random_components, random_page, Rng};
 use reference::numbers::ONE;
-use reference::page::{block_at, components, family, spaces, validate, Family};
+use reference::page::{block_at, components, family, name_at, spaces, validate, Family};
 use reference::recipe::{recipe_of, write, MOST_WORDS};
 use reference::runner::run;
 
@@ -32,11 +32,17 @@ fn asked(page: &[u8]) -> Vec<u32> {
 }
 
 /// "Lengths: Gray 6, RGB 14, CMYK 18, CalGray 9, CalRGB 26, Lab 16; Indexed adds 3 + m(hival + 1), Separation 3 + 2m."
+/// By document 02 "None is the words 1, 10; All is 1, the limit, 11", the limit being four words.
 fn length(page: &[u8], number: u32) -> usize {
     let inner = |reference: u16| {
         let inner = u32::from(reference);
         (components(page, inner).unwrap(), length(page, inner))
     };
+    match name_at(page, number) {
+        Some(b"None") => return 2,
+        Some(b"All") => return 6,
+        _ => {}
+    }
     match family(page, number).unwrap() {
         Family::DeviceGray => 6,
         Family::DeviceRgb => 14,
@@ -127,14 +133,14 @@ fn refusals_come_in_order() {
             1 => 0xff00 + rng.below(8) as u32,
             _ => rng.below(70) as u32,
         };
-        let mut lent = [5; 3];
+        let mut lent = [5; 1];
         let expected = match validate(&page) {
             Err(refusal) => Err(refusal),
             Ok(_) if components(&page, number).is_none() => Err((8, 0)),
             Ok(_) => Err((10, 0)),
         };
         assert_eq!(write(&page, number, &mut lent), expected);
-        assert_eq!(lent, [5; 3]);
+        assert_eq!(lent, [5; 1]);
         let asked = evaluate(&page, number, &[1, 2]);
         let Err((number_given, block)) = expected else {
             unreachable!()

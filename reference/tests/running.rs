@@ -49,6 +49,19 @@ fn the_least_recipes() {
         run(&[1, 3, 4, 1, 5, 7 * ONE, 4], &[i32::MIN]),
         Answer::Gray(float_of(5))
     );
+    // 10 and 11 may end any recipe; 11 reads value 0 as it stands.
+    for count in 1..=4 {
+        let colour = &[-7 * ONE, 1, 2, 3][..count];
+        let input = count as i32;
+        assert_eq!(run(&[input, 10], colour), Answer::NoMark);
+        assert_eq!(run(&[input, 11], colour), Answer::EveryInk(-7.0));
+        let limited = [input, 1, 0, 0, ONE, 11];
+        assert_eq!(run(&limited, colour), Answer::EveryInk(0.0));
+    }
+    assert_eq!(
+        run(&[1, 3, 1, 1, 5, 7 * ONE, 11], &[ONE]),
+        Answer::EveryInk(7.0)
+    );
     // A white point of 0 or below may stand in a recipe; signed zeros are kept.
     assert_eq!(
         run(&[1, 7, -1, 0, ONE], &[0]),
@@ -72,7 +85,12 @@ fn ill_formed_recipes_are_11() {
         vec![i32::MIN, 4],
         vec![1],
         vec![1, 0],
-        vec![1, 10],
+        vec![1, 12],
+        vec![1, 10, 0],
+        vec![1, 11, 0],
+        vec![1, 10, 11],
+        vec![5, 10],
+        vec![11],
         vec![1, -4],
         vec![1, 4, 4],
         vec![1, 4, 0],
@@ -122,6 +140,9 @@ fn ill_formed_recipes_are_11() {
     for words in [
         vec![1, 4],
         vec![4, 6],
+        vec![1, 10],
+        vec![4, 11],
+        vec![2, 1, 3, 5, 5, 10],
         vec![1, 7, 0, 0, 4 * ONE],
         vec![1, 7, 0, 0, 100_000],
         vec![1, 7, 0, 0, 1_800_000],
@@ -282,6 +303,8 @@ fn slow(words: &[i32], colour: &[i32]) -> Option<Answer> {
                 );
                 break Answer::Xyz([float(xw) * first, second, float(zw) * third]);
             }
+            10 => break Answer::NoMark,
+            11 => break Answer::EveryInk(float(values[0])),
             _ => return None,
         }
     };
@@ -394,7 +417,7 @@ fn random_words_run_alike() {
         let words: Vec<i32> = (0..length)
             .map(|_| match rng.below(4) {
                 0 => rng.number(),
-                _ => rng.between(0, 9),
+                _ => rng.between(0, 12),
             })
             .collect();
         let count = rng.below(5);
@@ -422,7 +445,7 @@ fn a_recipe_cut_short_is_11() {
             slow(&words, &colour),
             Some(evaluate(&page, number, &colour))
         );
-        words.push(rng.between(0, 9));
+        words.push(rng.between(0, 12));
         assert_eq!(run(&words, &colour), ELEVEN);
         words.pop();
         words.truncate(rng.below(words.len()));

@@ -14,7 +14,7 @@ use Rattle.page.specs.Outcomes.{accepted}
 use Rattle.page.specs.Validation.{validated}
 use Rattle.page.proofs.WellMade.{well-made-at}
 use Rattle.space.specs.Numbers.{asked}
-use Rattle.space.specs.Spaces.{Space, none, gray, rgb, cmyk, calGray, calRgb, lab, separation, indexed, countOf}
+use Rattle.space.specs.Spaces.{Space, none, gray, rgb, cmyk, calGray, calRgb, lab, noMark, everyInk, separation, indexed, countOf}
 use Rattle.space.specs.Pages.{spaceAt}
 use Rattle.space.specs.WellMade.{WellMade}
 use Rattle.space.proofs.Asked.{asked-space}
@@ -38,6 +38,8 @@ answers cmyk w v = tt
 answers (calGray k) w v = tt
 answers (calRgb k) w v = tt
 answers (lab k al ah bl bh) w v = tt
+answers noMark w v = tt
+answers everyInk w v = tt
 answers (separation e c0 c1 s) w v = answers s (w .4) _
 answers (indexed h t s) w v = answers s (w .3) _
 

@@ -13,10 +13,10 @@ use Rattle.fixed.specs.Values.{places, given, rowStep, tintStep}
 use Rattle.cie.specs.Answers.{refusal}
 use Rattle.cie.specs.Closings.{closed}
 use Rattle.runner.specs.Runs.{runs, ran}
-use Rattle.runner.proofs.Runs.{count-run, limit-run, tint-run, row-run, device-gray-run, device-rgb-run, device-cmyk-run, gray-run, rgb-run, lab-run}
-use Rattle.space.specs.Spaces.{Space, none, gray, rgb, cmyk, calGray, calRgb, lab, separation, indexed, countOf, lowOf, highOf, pick3, closingOf}
+use Rattle.runner.proofs.Runs.{count-run, limit-run, tint-run, row-run, device-gray-run, device-rgb-run, device-cmyk-run, gray-run, rgb-run, lab-run, no-mark-run, every-ink-run}
+use Rattle.space.specs.Spaces.{Space, none, gray, rgb, cmyk, calGray, calRgb, lab, noMark, everyInk, separation, indexed, countOf, limitCount, lowOf, highOf, pick3, closingOf}
 use Rattle.space.specs.WellMade.{WellMade}
-use Rattle.space.proofs.Counts.{count-high}
+use Rattle.space.proofs.Counts.{count-high, limits-high}
 use Rattle.recipe.specs.Recipes.{limitWords, limitsOf, closingWords, endsOf, stepsOf, recipeOf}
 use Rattle.recipe.proofs.Longest.{recipe-short}
 use Rattle.colour.specs.Colours.{limitedTo, settled, valued, answered}
@@ -35,7 +35,7 @@ module _ (n c : ℕ) (s : Space) (ordered : (k : ℕ) → ltZ (highOf s k) (lowO
   -- a plain space: its limits, and its closing step
   ends-run : ((u : List ℤ) → runs n c (closingWords (closingOf s)) u ≡ cond (eqb c n) (closed (closingOf s) u) (refusal 9 0))
       → (v : List ℤ) → runs n c (endsOf s) v ≡ cond (eqb c n) (settled s v) (refusal 9 0)
-  ends-run close v = limits-run (countOf s) (count-high s) (closingWords (closingOf s)) v ∙ close (limitedTo s (countOf s) v)
+  ends-run close v = limits-run (limitCount s) (limits-high s) (closingWords (closingOf s)) v ∙ close (limitedTo s (limitCount s) v)
 
 -- ---- ranges in order
 
@@ -62,6 +62,8 @@ count-low cmyk w = omega arith
 count-low (calGray k) w = omega arith
 count-low (calRgb k) w = omega arith
 count-low (lab k al ah bl bh) w = omega arith
+count-low noMark w = omega arith
+count-low everyInk w = omega arith
 count-low (separation e c0 c1 s) w = omega arith
 count-low (indexed h t s) w = omega arith
 
@@ -76,6 +78,8 @@ steps-run cmyk w n c v = ends-run n c cmyk unit-range (device-cmyk-run n c) v
 steps-run (calGray k) w n c v = ends-run n c (calGray k) unit-range (λ u. gray-run n c u k w) v
 steps-run (calRgb k) w n c v = ends-run n c (calRgb k) unit-range (λ u. rgb-run n c u k (w .0) (w .1) (w .2)) v
 steps-run (lab k al ah bl bh) w n c v = ends-run n c (lab k al ah bl bh) (lab-range al ah bl bh (w .0) (w .1)) (λ u. lab-run n c u k) v
+steps-run noMark w n c v = ends-run n c noMark unit-range (no-mark-run n c) v
+steps-run everyInk w n c v = ends-run n c everyInk unit-range (every-ink-run n c) v
 steps-run (separation e c0 c1 s) w n c v =
     tint-run e (countOf s) c0 c1 (stepsOf s) (w .0) (count-low s (w .4)) (count-high s) (w .1) (w .2) n c v
     ∙ steps-run s (w .4) n c (tintStep e (countOf s) c0 c1 v)

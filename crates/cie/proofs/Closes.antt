@@ -4,7 +4,7 @@ use mathlib.Core.List.{List, [], _∷_}
 use lib.IntN.{ℤ}
 use Rattle.fixed.specs.Values.{value}
 use Rattle.cie.specs.declared.Closing.{Closing}
-use Rattle.cie.specs.declared.Closing.the-variants.{Nothing, Gray, Rgb, Cmyk, CalGray, CalRgb, Lab}
+use Rattle.cie.specs.declared.Closing.the-variants.{Nothing, Gray, Rgb, Cmyk, CalGray, CalRgb, Lab, NoMark, EveryInk}
 use Rattle.cie.specs.Closings.{closed}
 
 pub closed-four : (k : Closing) (v : List ℤ) → closed k (value v 0 ∷ value v 1 ∷ value v 2 ∷ value v 3 ∷ []) ≡ closed k v
@@ -16,6 +16,8 @@ closed-four Cmyk v = refl
 closed-four (CalGray g) v = refl
 closed-four (CalRgb g) v = refl
 closed-four (Lab g) v = refl
+closed-four NoMark v = refl
+closed-four EveryInk v = refl
 
 -- the same of numbers that are those values
 pub closes : (k : Closing) (v : List ℤ) {a b c d : ℤ} → a ≡ value v 0 → b ≡ value v 1 → c ≡ value v 2 → d ≡ value v 3 → closed k (a ∷ b ∷ c ∷ d ∷ []) ≡ closed k v

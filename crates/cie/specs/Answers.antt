@@ -1,9 +1,9 @@
--- FORMAT.md, Answers: "An answer is one of Gray, RGB, CMYK or XYZ with its floats, or a refusal with its number and block."
+-- FORMAT.md, Answers: an answer is one of Gray, RGB, CMYK or XYZ with its floats, no mark, or every ink with its tint; or a refusal with its number and block.
 use Prim.Native.Nat.{ℕ}
 use mathlib.Core.List.{List, [], _∷_}
 use lib.Ieee.{Float}
 use Rattle.cie.specs.declared.Answer.{Answer}
-use Rattle.cie.specs.declared.Answer.the-variants.{Gray, Rgb, Cmyk, Xyz, Refused}
+use Rattle.cie.specs.declared.Answer.the-variants.{Gray, Rgb, Cmyk, Xyz, NoMark, EveryInk, Refused}
 
 -- what an answer is in
 pub data Kind : Type 0 where
@@ -11,6 +11,8 @@ pub data Kind : Type 0 where
   inRgb : Kind
   inCmyk : Kind
   inXyz : Kind
+  noMark : Kind
+  everyInk : Kind
 
 -- a reply: an answer with its floats in order, or a refusal with its number and block
 pub data Reply : Type 0 where
@@ -23,4 +25,6 @@ meaning (Gray g) = answer inGray (g ∷ [])
 meaning (Rgb r g b) = answer inRgb (r ∷ g ∷ b ∷ [])
 meaning (Cmyk c m y k) = answer inCmyk (c ∷ m ∷ y ∷ k ∷ [])
 meaning (Xyz p) = answer inXyz (p .x ∷ p .y ∷ p .z ∷ [])
+meaning NoMark = answer noMark []
+meaning (EveryInk t) = answer everyInk (t ∷ [])
 meaning (Refused n b) = refusal n b

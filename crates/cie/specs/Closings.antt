@@ -9,8 +9,8 @@ use Rattle.cie.specs.declared.GrayClosing.{GrayClosing}
 use Rattle.cie.specs.declared.RgbClosing.{RgbClosing}
 use Rattle.cie.specs.declared.LabClosing.{LabClosing}
 use Rattle.cie.specs.declared.Closing.{Closing}
-use Rattle.cie.specs.declared.Closing.the-variants.{Nothing, Gray, Rgb, Cmyk, CalGray, CalRgb, Lab}
-use Rattle.cie.specs.Answers.{Reply, answer, refusal, inGray, inRgb, inCmyk, inXyz}
+use Rattle.cie.specs.declared.Closing.the-variants.{Nothing, Gray, Rgb, Cmyk, CalGray, CalRgb, Lab, NoMark, EveryInk}
+use Rattle.cie.specs.Answers.{Reply, answer, refusal, inGray, inRgb, inCmyk, inXyz, noMark, everyInk}
 use Rattle.cie.specs.Steps.{tenthsOf, decoded, whiteOf, grayXyz, matrixOf, rgbXyz, labXyz}
 
 -- CalGray, of a component in millionths
@@ -41,3 +41,5 @@ closed Cmyk v = answer inCmyk (float (value v 0) ∷ float (value v 1) ∷ float
 closed (CalGray k) v = inThree (calGrayOf k (value v 0))
 closed (CalRgb k) v = inThree (calRgbOf k (value v 0) (value v 1) (value v 2))
 closed (Lab k) v = inThree (calLabOf k (value v 0) (value v 1) (value v 2))
+closed NoMark v = answer noMark []
+closed EveryInk v = answer everyInk (float (value v 0) ∷ [])

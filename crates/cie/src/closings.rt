@@ -51,5 +51,7 @@ pub fn close(k: Closing, a: i32, b: i32, c: i32, d: i32) -> Answer
         Closing::CalGray(g) => Answer::Xyz(close_gray(g, a)),
         Closing::CalRgb(g) => Answer::Xyz(close_rgb(g, a, b, c)),
         Closing::Lab(g) => Answer::Xyz(close_lab(g, a, b, c)),
+        Closing::NoMark => Answer::NoMark,
+        Closing::EveryInk => Answer::EveryInk(float_of(a)),
     }
 }

@@ -26,6 +26,10 @@ pub enum Answer {
     Rgb(f64, f64, f64),
     Cmyk(f64, f64, f64, f64),
     Xyz(Xyz),
+    // Nothing is marked.
+    NoMark,
+    // Every ink, with the tint.
+    EveryInk(f64),
     Refused { number: u32, block: u32 },
 }
 
@@ -67,4 +71,7 @@ pub enum Closing {
     CalGray(GrayClosing),
     CalRgb(RgbClosing),
     Lab(LabClosing),
+    // That of a Separation named None, and of one named All.
+    NoMark,
+    EveryInk,
 }

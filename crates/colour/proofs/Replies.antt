@@ -7,7 +7,7 @@ use lib.ListN.{length, take}
 use borrow.Author.Tests.{eq-eqb, ne-eqb}
 use Rattle.fixed.specs.Values.{places, given, tintStep}
 use Rattle.cie.specs.declared.Closing.{Closing}
-use Rattle.cie.specs.declared.Closing.the-variants.{Nothing, Gray, Rgb, Cmyk, CalGray, CalRgb, Lab}
+use Rattle.cie.specs.declared.Closing.the-variants.{Nothing, Gray, Rgb, Cmyk, CalGray, CalRgb, Lab, NoMark, EveryInk}
 use Rattle.cie.specs.Answers.{refusal}
 use Rattle.cie.specs.Closings.{closed}
 use Rattle.page.specs.Outcomes.{accepted, refused}
@@ -15,7 +15,7 @@ use Rattle.page.specs.Validation.{validated}
 use Rattle.record.specs.Layout.{entriesOf}
 use Rattle.record.specs.declared.types.Ranges.{Ranges}
 use Rattle.record.specs.declared.types.Separation.{Separation as Ink}
-use Rattle.space.specs.Spaces.{Space, countOf}
+use Rattle.space.specs.Spaces.{Space, countOf, limitCount}
 use Rattle.space.specs.Pages.{plainAt, tintedAt, rowAt, spaceAt}
 use Rattle.space.specs.Levels.{plainIn, spaceIn}
 use Rattle.space.specs.declared.nesting.Level.{Level}
@@ -25,7 +25,7 @@ use Rattle.colour.specs.Evaluating.{evaluated}
 use Rattle.colour.proofs.Steps.{tint-first}
 
 -- a plain space's values are limited, and then its closing step
-settles : (c : Closing) (q : Ranges) (v : List ℤ) → closed c (limitedTo (plainIn c q) (countOf (plainIn c q)) v) ≡ valued (plainIn c q) v
+settles : (c : Closing) (q : Ranges) (v : List ℤ) → closed c (limitedTo (plainIn c q) (limitCount (plainIn c q)) v) ≡ valued (plainIn c q) v
 unfolding valued
 settles Nothing q v = refl
 settles Gray q v = refl
@@ -34,10 +34,12 @@ settles Cmyk q v = refl
 settles (CalGray k) q v = refl
 settles (CalRgb k) q v = refl
 settles (Lab k) q v = refl
+settles NoMark q v = refl
+settles EveryInk q v = refl
 
 -- what the code makes of a level l and the values v: values u, of the space s within or for the closing step
 module _ (page : List ℕ) {l : Level} {u : List ℤ} (v : List ℤ) where
-  pub value-plain : (c : Closing) (q : Ranges) {m : ℕ} → l ≡ Plain c q → m ≡ countOf (plainIn c q) → u ≡ limitedTo (plainIn c q) m v → closed c u ≡ valued (spaceIn page l) v
+  pub value-plain : (c : Closing) (q : Ranges) {m : ℕ} → l ≡ Plain c q → m ≡ limitCount (plainIn c q) → u ≡ limitedTo (plainIn c q) m v → closed c u ≡ valued (spaceIn page l) v
   unfolding spaceIn
   value-plain c q el em eu =
       ap (closed c) (eu ∙ ap (λ (j : ℕ). limitedTo (plainIn c q) j v) em) ∙ settles c q v ∙ sym (ap (λ (k : Level). valued (spaceIn page k) v) el)

@@ -8,16 +8,16 @@ use lib.ListN.{length}
 use Rattle.fixed.specs.Values.{places, given, limitStep, rowStep, tintStep}
 use Rattle.cie.specs.Answers.{Reply, refusal}
 use Rattle.cie.specs.Closings.{closed}
-use Rattle.space.specs.Spaces.{Space, none, gray, rgb, cmyk, calGray, calRgb, lab, separation, indexed, countOf, lowOf, highOf, closingOf}
+use Rattle.space.specs.Spaces.{Space, none, gray, rgb, cmyk, calGray, calRgb, lab, noMark, everyInk, separation, indexed, countOf, limitCount, lowOf, highOf, closingOf}
 
 -- the first m values, each limited to its range
 unfoldable pub limitedTo : Space → ℕ → List ℤ → List ℤ
 limitedTo s zero v = v
 limitedTo s (suc m) v = limitStep m (lowOf s m) (highOf s m) (limitedTo s m v)
 
--- a plain space: its components limited, then its closing step
+-- a plain space: its components limited, but that of a Separation named None, then its closing step
 abbrev pub settled : Space → List ℤ → Reply
-settled s v = closed (closingOf s) (limitedTo s (countOf s) v)
+settled s v = closed (closingOf s) (limitedTo s (limitCount s) v)
 
 -- what the values reply in a space
 unfoldable pub valued : Space → List ℤ → Reply
@@ -28,6 +28,8 @@ valued cmyk v = settled cmyk v
 valued (calGray k) v = settled (calGray k) v
 valued (calRgb k) v = settled (calRgb k) v
 valued (lab k al ah bl bh) v = settled (lab k al ah bl bh) v
+valued noMark v = settled noMark v
+valued everyInk v = settled everyInk v
 valued (separation e c0 c1 s) v = valued s (tintStep e (countOf s) c0 c1 v)
 valued (indexed h t s) v = valued s (rowStep (countOf s) h t v)
 

@@ -14,8 +14,8 @@ use fixed::start;
 use space::Level;
 use space::count;
 use space::level_at;
+use space::limit_count;
 use space::plain_at;
-use space::plain_count;
 use space::plain_highs;
 use space::plain_lows;
 use space::tinted_at;
@@ -26,7 +26,7 @@ fn value_in(page: &[u8], l: Level, v: [i32; VALUES]) -> Answer
 {
     match l {
         Level::Plain(c, q) => {
-            let u = limit_all(plain_count(c), plain_lows(c, q), plain_highs(c, q), v);
+            let u = limit_all(limit_count(c), plain_lows(c, q), plain_highs(c, q), v);
             close(c, u[0], u[1], u[2], u[3])
         }
         Level::Separation(p) => {

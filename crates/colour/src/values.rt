@@ -6,7 +6,7 @@ ghost use Rattle.fixed.specs.Values.{places, value, filled, tintStep};
 ghost use Rattle.record.specs.Layout.{entriesOf};
 ghost use Rattle.space.specs.Spaces.{Space};
 ghost use Rattle.space.specs.Pages.{entries, entryOf, rowAt};
-ghost use Rattle.space.specs.Levels.{spaceIn, Ranged};
+ghost use Rattle.space.specs.Levels.{spaceIn, Ends, Ranged};
 ghost use Rattle.colour.specs.Colours.{limitedTo};
 use fixed::VALUES;
 use fixed::limit;
@@ -25,7 +25,7 @@ use space::lows;
 // The first m values, each limited to its range, from lo to hi.
 pub fn limit_all(m: u32, lo: [i32; VALUES], hi: [i32; VALUES], v: [i32; VALUES]) -> [i32; VALUES]
     requires { ⌜ m ≤ places ⌝ }
-    ensures { λ r. ⌜ ((s : Space) → Ranged s m lo hi → r ≡ limitedTo s m v) ⌝ }
+    ensures { λ r. ⌜ ((s : Space) → Ends s lo hi → r ≡ limitedTo s m v) ⌝ }
 {
     let mut u = v;
     let mut k: usize = 0;

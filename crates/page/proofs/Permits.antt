@@ -12,7 +12,7 @@ use Rattle.record.specs.declared.types.Body.{Body}
 use Rattle.record.specs.declared.types.Body.the-variants.{Free, CalGray, CalRgb, Lab, Indexed, Separation, Palette}
 use Rattle.space.specs.Spaces.{Space, countOf}
 use Rattle.space.specs.Pages.{deviceOf, numbered, plainOf, plainAt, tintedOf, tintedAt}
-use Rattle.space.proofs.Asked.{device-some}
+use Rattle.space.proofs.Asked.{device-some, ink-some}
 use Rattle.page.specs.Validation.{isAlternate, isBase, refersTo, permitted, within, paletteSize}
 
 -- f is what a block is permitted by, and g what its space is
@@ -36,21 +36,21 @@ alternate-body (Separation p) = refl
 alternate-body Palette = refl
 
 module _ (page : List ℕ) where
-  base-body : (y : Body) → isBase y ≡ ltb 0 (countOf (tintedOf page y))
+  base-body : (n : ℕ) (y : Body) → isBase y ≡ ltb 0 (countOf (tintedOf page n y))
   unfolding tintedOf plainOf
-  base-body Free = refl
-  base-body (CalGray g) = refl
-  base-body (CalRgb g) = refl
-  base-body (Lab g) = refl
-  base-body (Indexed base hival) = refl
-  base-body (Separation p) = refl
-  base-body Palette = refl
+  base-body n Free = refl
+  base-body n (CalGray g) = refl
+  base-body n (CalRgb g) = refl
+  base-body n (Lab g) = refl
+  base-body n (Indexed base hival) = refl
+  base-body n (Separation p) = sym (ink-some page n p)
+  base-body n Palette = refl
 
   pub alternate-permits : (n : ℕ) → refersTo page isAlternate n ≡ ltb 0 (countOf (plainAt page n))
   alternate-permits = permits page isAlternate plainOf alternate-body
 
   pub base-permits : (n : ℕ) → refersTo page isBase n ≡ ltb 0 (countOf (tintedAt page n))
-  base-permits = permits page isBase (tintedOf page) base-body
+  base-permits n = permits page isBase (tintedOf page n) (base-body n) n
 
   -- so one that is permitted has components
   pub alternate-some : (n : ℕ) → refersTo page isAlternate n ≡ true → 1 ≤ countOf (plainAt page n)

@@ -1,4 +1,4 @@
--- On an accepted page the space at every number, if it has components, is whole.
+-- On an accepted page the space at every number, if it has components, is well made.
 use mathlib.Core.Path.{_≡_}
 use mathlib.Core.Bool.{true}
 use mathlib.Core.List.{List}
@@ -8,14 +8,14 @@ use borrow.Author.Tests.{leb-true}
 use lib.Signed.{leZ}
 use Rattle.fixed.specs.Bytes.{blockAt}
 use Rattle.fixed.specs.Numbers.{gammaSupported}
-use Rattle.fixed.proofs.Decide.{and-left, and-right}
+use Rattle.fixed.proofs.Decide.{cond-ind, and-left, and-right}
 use Rattle.fixed.proofs.Signs.{not-above}
-use Rattle.record.specs.Reading.{bodyAt}
+use Rattle.record.specs.Reading.{bodyAt, theNone, theAll, nameIs}
 use Rattle.record.specs.Rules.{whitePoint, blackPoint, ordered, lawful, supported}
 use Rattle.record.specs.declared.types.Body.{Body}
 use Rattle.record.specs.declared.types.Body.the-variants.{Free, CalGray, CalRgb, Lab, Indexed, Separation, Palette}
 use Rattle.space.specs.Spaces.{Space, countOf}
-use Rattle.space.specs.Pages.{numbered, plainOf, plainAt, tintedOf, tintedAt, spaceOf, spaceAt}
+use Rattle.space.specs.Pages.{numbered, plainOf, plainAt, inkOf, tintedOf, tintedAt, spaceOf, spaceAt}
 use Rattle.space.specs.WellMade.{WellMade, rankOf}
 use Rattle.space.proofs.Levels.{numbered-ind, body-rank, plain-rank}
 use Rattle.space.proofs.Counts.{table-length, c0-length, c1-length}
@@ -24,7 +24,7 @@ use Rattle.page.specs.Validation.{permitted, validated}
 use Rattle.page.proofs.Accepted.{Fair, fair-at}
 use Rattle.page.proofs.Permits.{alternate-some, base-some}
 
--- a space that is whole if it has components, and of a rank below r
+-- a space that is well made if it has components, and of a rank below r
 abbrev Sound : ℕ → Space → Type 0
 Sound r s = 1 ≤ countOf s → WellMade s × (rankOf s < r)
 
@@ -57,34 +57,36 @@ module _ (page : List ℕ) (fair : (n : ℕ) → Fair page (bodyAt (blockAt page
   plain-at n = sound-at 1 (omega arith) page plainOf n (plain-sound page _ (fair n))
 
   -- 5: each exponent is within the house limit; 6: the alternate is of a kind permitted, and has components
-  tinted-sound : (y : Body) → Fair page y → Sound 2 (tintedOf page y)
-  unfolding supported permitted tintedOf WellMade
-  tinted-sound Free w h = let p = plain-sound page Free w h in (p .0, omega (arith, p .1))
-  tinted-sound (CalGray g) w h = let p = plain-sound page (CalGray g) w h in (p .0, omega (arith, p .1))
-  tinted-sound (CalRgb g) w h = let p = plain-sound page (CalRgb g) w h in (p .0, omega (arith, p .1))
-  tinted-sound (Lab g) w h = let p = plain-sound page (Lab g) w h in (p .0, omega (arith, p .1))
-  tinted-sound (Indexed base hival) w h = let p = plain-sound page (Indexed base hival) w h in (p .0, omega (arith, p .1))
-  tinted-sound (Separation p) w h =
+  tinted-sound : (n : ℕ) (y : Body) → Fair page y → Sound 2 (tintedOf page n y)
+  unfolding supported permitted inkOf tintedOf WellMade
+  tinted-sound n Free w h = let p = plain-sound page Free w h in (p .0, omega (arith, p .1))
+  tinted-sound n (CalGray g) w h = let p = plain-sound page (CalGray g) w h in (p .0, omega (arith, p .1))
+  tinted-sound n (CalRgb g) w h = let p = plain-sound page (CalRgb g) w h in (p .0, omega (arith, p .1))
+  tinted-sound n (Lab g) w h = let p = plain-sound page (Lab g) w h in (p .0, omega (arith, p .1))
+  tinted-sound n (Indexed base hival) w h = let p = plain-sound page (Indexed base hival) w h in (p .0, omega (arith, p .1))
+  tinted-sound n (Separation p) w h =
       let s = plainAt page (p .alternate) in
       let i = plain-at (p .alternate) (alternate-some page (p .alternate) (w .permitted-is)) in
-      ((w .supported-is, c0-length p s, c1-length p s, i .1, i .0), omega arith)
-  tinted-sound Palette w h = let p = plain-sound page Palette w h in (p .0, omega (arith, p .1))
+      cond-ind (λ (t : Space). WellMade t × (rankOf t < 2)) (nameIs (blockAt page n) theNone) (λ _. (tt, omega arith)) (λ _.
+      cond-ind (λ (t : Space). WellMade t × (rankOf t < 2)) (nameIs (blockAt page n) theAll) (λ _. (tt, omega arith)) (λ _.
+      ((w .supported-is, c0-length p s, c1-length p s, i .1, i .0), omega arith)))
+  tinted-sound n Palette w h = let p = plain-sound page Palette w h in (p .0, omega (arith, p .1))
 
   tinted-at : (n : ℕ) → Sound 2 (tintedAt page n)
-  tinted-at n = sound-at 2 (omega arith) page (tintedOf page) n (tinted-sound _ (fair n))
+  tinted-at n = sound-at 2 (omega arith) page (tintedOf page n) n (tinted-sound n _ (fair n))
 
   -- 4: hival 0 to 255; 6: the base is of a kind permitted, and has components
   space-sound : (n : ℕ) (y : Body) → Fair page y → Sound 3 (spaceOf page n y)
   unfolding lawful permitted spaceOf WellMade
-  space-sound n Free w h = let p = tinted-sound Free w h in (p .0, omega (arith, p .1))
-  space-sound n (CalGray g) w h = let p = tinted-sound (CalGray g) w h in (p .0, omega (arith, p .1))
-  space-sound n (CalRgb g) w h = let p = tinted-sound (CalRgb g) w h in (p .0, omega (arith, p .1))
-  space-sound n (Lab g) w h = let p = tinted-sound (Lab g) w h in (p .0, omega (arith, p .1))
+  space-sound n Free w h = let p = tinted-sound n Free w h in (p .0, omega (arith, p .1))
+  space-sound n (CalGray g) w h = let p = tinted-sound n (CalGray g) w h in (p .0, omega (arith, p .1))
+  space-sound n (CalRgb g) w h = let p = tinted-sound n (CalRgb g) w h in (p .0, omega (arith, p .1))
+  space-sound n (Lab g) w h = let p = tinted-sound n (Lab g) w h in (p .0, omega (arith, p .1))
   space-sound n (Indexed base hival) w h =
       let i = tinted-at base (base-some page base (w .permitted-is)) in
       ((leb-true hival 255 (w .lawful-is), table-length page n hival (tintedAt page base), i .1, i .0), omega arith)
-  space-sound n (Separation p) w h = let q = tinted-sound (Separation p) w h in (q .0, omega (arith, q .1))
-  space-sound n Palette w h = let p = tinted-sound Palette w h in (p .0, omega (arith, p .1))
+  space-sound n (Separation p) w h = let q = tinted-sound n (Separation p) w h in (q .0, omega (arith, q .1))
+  space-sound n Palette w h = let p = tinted-sound n Palette w h in (p .0, omega (arith, p .1))
 
 -- every number, device codes among them, whose space has components: so all but those that are refused with 8
 pub well-made-at : (page : List ℕ) (n : ℕ) → validated page ≡ accepted → 1 ≤ countOf (spaceAt page n) → WellMade (spaceAt page n)

@@ -6,7 +6,7 @@ use native.Mathlib.Nat.{mul-le-mul, le-refl}
 use native.Mathlib.Omega.{arith}
 use lib.IntN.{ℤ}
 use lib.ListN.{length, length-append}
-use Rattle.space.specs.Spaces.{Space, none, gray, rgb, cmyk, calGray, calRgb, lab, separation, indexed, countOf, wordsOf}
+use Rattle.space.specs.Spaces.{Space, none, gray, rgb, cmyk, calGray, calRgb, lab, noMark, everyInk, separation, indexed, countOf, wordsOf}
 use Rattle.space.specs.Pages.{tableOf, c0Of, c1Of, spaceAt}
 use Rattle.space.specs.WellMade.{rankOf, WellMade}
 use Rattle.space.specs.Levels.{spaceIn, levelAt}
@@ -46,6 +46,8 @@ plain-length cmyk r = refl
 plain-length (calGray k) r = refl
 plain-length (calRgb k) r = refl
 plain-length (lab k al ah bl bh) r = refl
+plain-length noMark r = refl
+plain-length everyInk r = refl
 plain-length (separation e c0 c1 s) r = absurd (omega arith)
 plain-length (indexed h t s) r = absurd (omega arith)
 
@@ -59,6 +61,8 @@ recipe-length cmyk w = plain-length cmyk (omega arith)
 recipe-length (calGray k) w = plain-length (calGray k) (omega arith)
 recipe-length (calRgb k) w = plain-length (calRgb k) (omega arith)
 recipe-length (lab k al ah bl bh) w = plain-length (lab k al ah bl bh) (omega arith)
+recipe-length noMark w = plain-length noMark (omega arith)
+recipe-length everyInk w = plain-length everyInk (omega arith)
 recipe-length (separation e c0 c1 s) w = separation-length s (recipe-length s (w .4)) e c0 c1 (w .1) (w .2)
 recipe-length (indexed h t s) w = indexed-length s (recipe-length s (w .3)) h t (w .1)
 
@@ -90,6 +94,8 @@ plain-few cmyk r = (omega arith, omega arith)
 plain-few (calGray k) r = (omega arith, omega arith)
 plain-few (calRgb k) r = (omega arith, omega arith)
 plain-few (lab k al ah bl bh) r = (omega arith, omega arith)
+plain-few noMark r = (omega arith, omega arith)
+plain-few everyInk r = (omega arith, omega arith)
 plain-few (separation e c0 c1 s) r = absurd (omega arith)
 plain-few (indexed h t s) r = absurd (omega arith)
 

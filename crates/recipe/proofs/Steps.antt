@@ -9,7 +9,7 @@ use lib.ListN.{length, length-append}
 use lib.Seq.{sets}
 use Rattle.fixed.proofs.Stores.{then}
 use Rattle.cie.specs.declared.Closing.{Closing}
-use Rattle.cie.specs.declared.Closing.the-variants.{Nothing, Gray, Rgb, Cmyk, CalGray, CalRgb, Lab}
+use Rattle.cie.specs.declared.Closing.the-variants.{Nothing, Gray, Rgb, Cmyk, CalGray, CalRgb, Lab, NoMark, EveryInk}
 use Rattle.record.specs.declared.types.Ranges.{Ranges}
 use Rattle.record.specs.declared.types.Separation.{Separation as Ink}
 use Rattle.space.specs.Spaces.{Space, countOf, closingOf}
@@ -29,6 +29,8 @@ closing-is Cmyk q = refl
 closing-is (CalGray k) q = refl
 closing-is (CalRgb k) q = refl
 closing-is (Lab k) q = refl
+closing-is NoMark q = refl
+closing-is EveryInk q = refl
 
 ends-are : (c : Closing) (q : Ranges) → stepsOf (plainIn c q) ≡ endsOf (plainIn c q)
 unfolding stepsOf
@@ -39,6 +41,8 @@ ends-are Cmyk q = refl
 ends-are (CalGray k) q = refl
 ends-are (CalRgb k) q = refl
 ends-are (Lab k) q = refl
+ends-are NoMark q = refl
+ends-are EveryInk q = refl
 
 -- by what level l is; s is the space within
 module _ (page : List ℕ) {l : Level} where

@@ -13,7 +13,7 @@ use Rattle.fixed.proofs.Stores.{then}
 use Rattle.cie.specs.declared.Closing.{Closing}
 use Rattle.record.specs.Layout.{entriesOf}
 use Rattle.record.specs.declared.types.Separation.{Separation as Ink}
-use Rattle.space.specs.Spaces.{Space, countOf, lowOf, highOf, closingOf}
+use Rattle.space.specs.Spaces.{Space, countOf, limitCount, lowOf, highOf, closingOf}
 use Rattle.space.specs.Pages.{entryOf, tableOf}
 use Rattle.space.proofs.Counts.{table-length}
 use Rattle.recipe.specs.Recipes.{limitWords, limitsOf, closingWords, endsOf}
@@ -35,11 +35,11 @@ limits-turn s d at k {w = w} {lo} {hi} e hw hl hh g =
     let j : at + 4 * k ≡ at + length (limitsOf s k) = rw (limits-length s k) in
     then (limitsOf s k) d at (at + 4 * k) (pos 1 ∷ w ∷ lo ∷ hi ∷ []) j e g ∙ rw (add-one, hw, hl, hh)
 
-module _ (s : Space) (c : Closing) (m : ℕ) (em : m ≡ countOf s) (ec : c ≡ closingOf s) where
+module _ (s : Space) (c : Closing) (m : ℕ) (em : m ≡ limitCount s) (ec : c ≡ closingOf s) where
   ends-length : length (endsOf s) ≡ 4 * m + length (closingWords c)
   ends-length =
-      length-append (limitsOf s (countOf s)) (closingWords (closingOf s)) ∙
-      (ap (λ (j : ℕ). j + length (closingWords (closingOf s))) (limits-length s (countOf s)) ∙ rw (em, ec))
+      length-append (limitsOf s (limitCount s)) (closingWords (closingOf s)) ∙
+      (ap (λ (j : ℕ). j + length (closingWords (closingOf s))) (limits-length s (limitCount s)) ∙ rw (em, ec))
 
   pub ends-room : (at : ℕ) (d u : List ℤ) → at + length (endsOf s) ≤ length d → length u ≡ length d → (at + 4 * m ≤ length d) × (at + 4 * m + length (closingWords c) ≤ length u)
   ends-room at d u room same = let e = ends-length in (omega arith, omega arith)

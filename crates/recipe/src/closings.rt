@@ -64,5 +64,11 @@ pub fn put_closing(k: Closing, words: &mut [i32], at: usize)
         Closing::Lab(g) => {
             put_lab(g, words, at);
         }
+        Closing::NoMark => {
+            words[at] = 10;
+        }
+        Closing::EveryInk => {
+            words[at] = 11;
+        }
     }
 }

@@ -6,7 +6,7 @@ ghost use lib.Seq.{sets};
 ghost use Rattle.fixed.specs.Values.{places, value, listed};
 ghost use Rattle.space.specs.Spaces.{Space};
 ghost use Rattle.space.specs.Pages.{entries, entryOf};
-ghost use Rattle.space.specs.Levels.{plainIn, spaceIn, Ranged};
+ghost use Rattle.space.specs.Levels.{plainIn, spaceIn, Ends, Ranged};
 ghost use Rattle.recipe.specs.Recipes.{limitsOf, endsOf};
 ghost use Rattle.recipe.specs.Parts.{rowWords, tintWords};
 use crate::closings::put_closing;
@@ -22,8 +22,8 @@ use space::Level;
 use space::count;
 use space::entry;
 use space::highs;
+use space::limit_count;
 use space::lows;
-use space::plain_count;
 use space::plain_highs;
 use space::plain_lows;
 
@@ -65,7 +65,7 @@ fn put_entries(a: [i32; 4], m: u32, words: &mut [i32], at: usize)
 // The limits of the first m components, whose ranges are from lo to hi.
 fn put_limits(m: u32, lo: [i32; VALUES], hi: [i32; VALUES], words: &mut [i32], at: usize)
     requires { ⌜ (m ≤ places) × (at + 4 * m ≤ length (now words)) ⌝ }
-    ensures { λ _. ⌜ ((s : Space) → Ranged s m lo hi → now (words .exit) ≡ sets (now (words .entry)) at (limitsOf s m)) ⌝ }
+    ensures { λ _. ⌜ ((s : Space) → Ends s lo hi → now (words .exit) ≡ sets (now (words .entry)) at (limitsOf s m)) ⌝ }
 {
     let mut k: u32 = 0;
     while k < m {
@@ -81,7 +81,7 @@ pub fn put_ends(c: Closing, q: Ranges, words: &mut [i32], at: usize)
     requires { ⌜ at + length (endsOf (plainIn c q)) ≤ length (now words) ⌝ }
     ensures { λ _. ⌜ now (words .exit) ≡ sets (now (words .entry)) at (endsOf (plainIn c q)) ⌝ }
 {
-    let m = plain_count(c);
+    let m = limit_count(c);
     put_limits(m, plain_lows(c, q), plain_highs(c, q), words, at);
     put_closing(c, words, at + 4 * (m as usize));
 }

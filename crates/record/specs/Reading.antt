@@ -1,10 +1,11 @@
 -- FORMAT.md, Kinds: what a block b says, by the byte offsets of the table. Every list of bytes says something; specs/Rules.antt has what is refused.
-use mathlib.Core.List.{List, _++_}
-use mathlib.Core.Bool.{cond}
+use mathlib.Core.List.{List, [], _∷_, _++_}
+use mathlib.Core.Bool.{Bool, _&&_, cond}
 use Prim.Native.Nat.{ℕ, _+_, _-_}
-use lib.ListN.{drop, replicate}
+use lib.ListN.{length, drop, replicate}
 use lib.Dec.{eqb}
 use Rattle.fixed.specs.Bytes.{byteAt, twoAt, numberAt}
+use Rattle.fixed.specs.Loops.{allBetween}
 use Rattle.layout.specs.Field.{padded}
 use Rattle.record.specs.Layout.{room}
 use Rattle.record.specs.declared.types.Triple.{Triple}
@@ -85,6 +86,17 @@ bytesBy k b = cond (eqb k 5) (runAt b 8 128) (cond (eqb k 6) (runAt b 4 room) (r
 -- byte k of the part of a palette
 abbrev pub paletteAt : List ℕ → ℕ → ℕ
 paletteAt b k = byteAt b (4 + k)
+
+-- the two names that are no ink's: None, and All
+abbrev pub theNone : List ℕ
+theNone = 0x4E ∷ 0x6F ∷ 0x6E ∷ 0x65 ∷ []
+
+abbrev pub theAll : List ℕ
+theAll = 0x41 ∷ 0x6C ∷ 0x6C ∷ []
+
+-- the name of a block is exactly these bytes: as long, name length 7, and the same byte by byte, name 8
+unfoldable pub nameIs : List ℕ → List ℕ → Bool
+nameIs b name = eqb (byteAt b 7) (length name) && allBetween (λ k. eqb (byteAt b (8 + k)) (byteAt name k)) 0 (length name)
 
 -- the record that a block holds
 unfoldable pub recordAt : List ℕ → Record

@@ -3,6 +3,7 @@
 // Functions that read take a page and the number of a block on it; a block that stands alone is block 0.
 mod check;
 mod fits;
+mod names;
 mod read;
 mod rules;
 mod shape;
@@ -13,6 +14,7 @@ pub use check::Sums;
 pub use check::is_checked;
 pub use check::sum_up;
 pub use fits::record_fits;
+pub use names::is_name;
 pub use read::body_at;
 pub use read::entries_of;
 pub use read::is_palette;

@@ -20,7 +20,7 @@ use Rattle.cie.specs.declared.GrayClosing.{GrayClosing}
 use Rattle.cie.specs.declared.RgbClosing.{RgbClosing}
 use Rattle.cie.specs.declared.LabClosing.{LabClosing}
 use Rattle.cie.specs.declared.Closing.{Closing}
-use Rattle.cie.specs.declared.Closing.the-variants.{Gray, Rgb, Cmyk, CalGray, CalRgb, Lab}
+use Rattle.cie.specs.declared.Closing.the-variants.{Gray, Rgb, Cmyk, CalGray, CalRgb, Lab, NoMark, EveryInk}
 use Rattle.runner.specs.Steps.{limitRead, rowRead, tintRead, closeRead, grayRead, rgbRead, stepBy, stepOf}
 use Rattle.runner.specs.Runs.{longest, ended, runs, ran}
 use Rattle.runner.specs.declared.Step.the-variants.{Limit, Row, Tint, Close}
@@ -144,7 +144,21 @@ pub lab-read : (k : LabClosing) → stepOf (pos 9 ∷ k .xw ∷ k .zw ∷ []) �
 unfolding stepBy closeRead
 lab-read k = refl
 
+pub no-mark-read : stepOf (pos 10 ∷ []) ≡ At (Close NoMark) 1
+unfolding stepBy closeRead
+no-mark-read = refl
+
+pub every-ink-read : stepOf (pos 11 ∷ []) ≡ At (Close EveryInk) 1
+unfolding stepBy closeRead
+every-ink-read = refl
+
 module _ (n c : ℕ) (v : List ℤ) where
+  pub no-mark-run : runs n c (pos 10 ∷ []) v ≡ cond (eqb c n) (closed NoMark v) (refusal 9 0)
+  no-mark-run = close-run n c (pos 10 ∷ []) v NoMark no-mark-read
+
+  pub every-ink-run : runs n c (pos 11 ∷ []) v ≡ cond (eqb c n) (closed EveryInk v) (refusal 9 0)
+  every-ink-run = close-run n c (pos 11 ∷ []) v EveryInk every-ink-read
+
   pub device-gray-run : runs n c (pos 4 ∷ []) v ≡ cond (eqb c n) (closed Gray v) (refusal 9 0)
   device-gray-run = close-run n c (pos 4 ∷ []) v Gray device-gray-read
 

@@ -17,7 +17,7 @@ use Rattle.fixed.specs.Values.{value, smallOf, places}
 use Rattle.fixed.proofs.Decide.{cond-ind}
 use Rattle.cie.specs.Answers.{Reply, refusal}
 use Rattle.cie.specs.declared.Closing.{Closing}
-use Rattle.cie.specs.declared.Closing.the-variants.{Gray, Rgb, Cmyk, CalGray, CalRgb, Lab}
+use Rattle.cie.specs.declared.Closing.the-variants.{Gray, Rgb, Cmyk, CalGray, CalRgb, Lab, NoMark, EveryInk}
 use Rattle.runner.specs.Steps.{fills, limitRead, rowRead, tintRead, closeRead, grayWords, grayRead, rgbWords, rgbRead, labWords, stepBy, stepOf}
 use Rattle.runner.specs.Ranges.{Bounded}
 use Rattle.runner.specs.Runs.{Turn, done, more, ended, stepped, turnOf, runsAfter, runs}
@@ -94,7 +94,9 @@ by-sound op l =
     cond-ind (Fine l) (eqb op 6) (λ _. close-sound l 1 Cmyk (omega arith)) (λ _.
     cond-ind (Fine l) (eqb op 7) (λ _. gray-sound l) (λ _.
     cond-ind (Fine l) (eqb op 8) (λ _. rgb-sound l) (λ _.
-    cond-ind (Fine l) (eqb op 9) (λ _. close-sound l 3 (Lab (labWords l)) (omega arith)) (λ _. nothing l)))))))))
+    cond-ind (Fine l) (eqb op 9) (λ _. close-sound l 3 (Lab (labWords l)) (omega arith)) (λ _.
+    cond-ind (Fine l) (eqb op 10) (λ _. close-sound l 1 NoMark (omega arith)) (λ _.
+    cond-ind (Fine l) (eqb op 11) (λ _. close-sound l 1 EveryInk (omega arith)) (λ _. nothing l)))))))))))
 
 -- every step that is read takes 1 to `length l` words, and its small numbers are in range
 pub step-sound : (l : List ℤ) → Sound l (stepOf l)

@@ -12,7 +12,7 @@ use Rattle.cie.specs.declared.GrayClosing.{GrayClosing}
 use Rattle.cie.specs.declared.RgbClosing.{RgbClosing}
 use Rattle.cie.specs.declared.LabClosing.{LabClosing}
 use Rattle.cie.specs.declared.Closing.{Closing}
-use Rattle.cie.specs.declared.Closing.the-variants.{Gray, Rgb, Cmyk, CalGray, CalRgb, Lab}
+use Rattle.cie.specs.declared.Closing.the-variants.{Gray, Rgb, Cmyk, CalGray, CalRgb, Lab, NoMark, EveryInk}
 use Rattle.runner.specs.declared.Step.the-variants.{Limit, Row, Tint, Close}
 use Rattle.runner.specs.declared.Read.{Read}
 use Rattle.runner.specs.declared.Read.the-variants.{At, Nothing}
@@ -84,7 +84,7 @@ rgbRead l =
 abbrev pub labWords : List ℤ → LabClosing
 labWords l = record { xw = value l 1; zw = value l 2 }
 
--- the step that begins with the word op; closing: 4 Gray, 5 RGB, 6 CMYK
+-- the step that begins with the word op; closing: 4 Gray, 5 RGB, 6 CMYK, 10 no mark, 11 every ink
 unfoldable pub stepBy : ℕ → List ℤ → Read
 stepBy op l =
     cond (eqb op 1) (limitRead l)
@@ -96,7 +96,9 @@ stepBy op l =
     (cond (eqb op 7) (grayRead l)
     (cond (eqb op 8) (rgbRead l)
     (cond (eqb op 9) (closeRead l 3 (Lab (labWords l)))
-    Nothing))))))))
+    (cond (eqb op 10) (closeRead l 1 NoMark)
+    (cond (eqb op 11) (closeRead l 1 EveryInk)
+    Nothing))))))))))
 
 -- no step begins with a word 0, so none is read off an empty list
 abbrev pub stepOf : List ℤ → Read

@@ -3,18 +3,20 @@ use Prim.Native.Nat.{ℕ, _+_, _*_}
 use mathlib.Core.List.{List}
 use lib.Ieee.{Float}
 use lib.Seq.{sets}
-use Rattle.cie.specs.Answers.{Kind, inGray, inRgb, inCmyk, inXyz, Reply, answer, refusal}
+use Rattle.cie.specs.Answers.{Kind, inGray, inRgb, inCmyk, inXyz, noMark, everyInk, Reply, answer, refusal}
 
 -- a low half and a high half
 abbrev pub inHalves : ℕ → ℕ → ℕ
 inHalves low high = high * 4294967296 + low
 
--- 1 Gray, 2 RGB, 3 CMYK, 4 XYZ
+-- 1 Gray, 2 RGB, 3 CMYK, 4 XYZ, 5 no mark, 6 every ink
 abbrev pub codeOf : Kind → ℕ
 codeOf inGray = 1
 codeOf inRgb = 2
 codeOf inCmyk = 3
 codeOf inXyz = 4
+codeOf noMark = 5
+codeOf everyInk = 6
 
 -- an answer: no refusal, and its code; a refusal: its number and block
 abbrev pub replyOf : Reply → ℕ

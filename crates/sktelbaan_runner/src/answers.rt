@@ -52,6 +52,11 @@ pub fn put_answer(a: Answer, floats: &mut [f64; 4]) -> u64
             put_three(floats, p.x, p.y, p.z);
             halves(0, 4)
         }
+        Answer::NoMark => halves(0, 5),
+        Answer::EveryInk(t) => {
+            floats[0] = t;
+            halves(0, 6)
+        }
         Answer::Refused { number, block } => halves(number, block),
     }
 }

@@ -8,12 +8,13 @@ use lib.Dec.{eqb, ltb, leb}
 use borrow.Author.Tests.{ne-eqb, ltb-true}
 use Rattle.fixed.specs.Bytes.{blocks, device, grayCode, rgbCode, cmykCode, blockAt}
 use Rattle.record.specs.Layout.{kindOf}
-use Rattle.record.specs.Reading.{bodyAt}
+use Rattle.record.specs.Reading.{bodyAt, theNone, theAll, nameIs}
+use Rattle.record.specs.declared.types.Separation.{Separation as Ink}
 use Rattle.record.specs.declared.types.Body.{Body}
 use Rattle.record.specs.declared.types.Body.the-variants.{Free, CalGray, CalRgb, Lab, Indexed, Separation, Palette}
 use Rattle.space.specs.Numbers.{asked}
-use Rattle.space.specs.Spaces.{Space, gray, rgb, cmyk, none, countOf}
-use Rattle.space.specs.Pages.{deviceOf, plainOf, tintedOf, spaceOf, spaceAt}
+use Rattle.space.specs.Spaces.{Space, gray, rgb, cmyk, none, noMark, everyInk, countOf}
+use Rattle.space.specs.Pages.{deviceOf, plainOf, plainAt, separationOver, inkOf, tintedOf, spaceOf, spaceAt}
 
 -- a space has components
 abbrev some : Space → Bool
@@ -30,7 +31,17 @@ pub device-some : (n : ℕ) → some (deviceOf n) ≡ device n
 unfolding deviceOf
 device-some n = by-code (eqb n grayCode) (eqb n rgbCode) (eqb n cmykCode)
 
+-- a Separation has one component, whatever its name
+by-name : (a b : Bool) (p : Ink) (s : Space) → some (cond a noMark (cond b everyInk (separationOver p s))) ≡ true
+by-name true b p s = refl
+by-name false true p s = refl
+by-name false false p s = refl
+
 module _ (page : List ℕ) (n : ℕ) where
+  pub ink-some : (p : Ink) → some (inkOf page n p) ≡ true
+  unfolding inkOf
+  ink-some p = by-name (nameIs (blockAt page n) theNone) (nameIs (blockAt page n) theAll) p (plainAt page (p .alternate))
+
   body-some : (y : Body) → some (spaceOf page n y) ≡ (leb 1 (kindOf y) && leb (kindOf y) 5)
   unfolding spaceOf tintedOf plainOf
   body-some Free = refl
@@ -38,7 +49,7 @@ module _ (page : List ℕ) (n : ℕ) where
   body-some (CalRgb g) = refl
   body-some (Lab g) = refl
   body-some (Indexed base hival) = refl
-  body-some (Separation p) = refl
+  body-some (Separation p) = ink-some p
   body-some Palette = refl
 
   -- no block has a device code for its number

@@ -10,7 +10,7 @@ use Rattle.fixed.specs.Values.{places}
 use Rattle.fixed.proofs.Listed.{listed-length}
 use Rattle.record.specs.Layout.{entriesOf}
 use Rattle.record.specs.declared.types.Separation.{Separation as Ink}
-use Rattle.space.specs.Spaces.{Space, none, gray, rgb, cmyk, calGray, calRgb, lab, separation, indexed, countOf, wordsOf}
+use Rattle.space.specs.Spaces.{Space, none, gray, rgb, cmyk, calGray, calRgb, lab, noMark, everyInk, separation, indexed, countOf, limitCount, wordsOf}
 use Rattle.space.specs.Pages.{entries, tableOf, c0Of, c1Of, plainAt, tintedAt}
 use Rattle.space.specs.Levels.{spaceIn}
 use Rattle.space.specs.declared.nesting.Level.{Level}
@@ -24,8 +24,23 @@ count-high cmyk = omega arith
 count-high (calGray k) = omega arith
 count-high (calRgb k) = omega arith
 count-high (lab k al ah bl bh) = omega arith
+count-high noMark = omega arith
+count-high everyInk = omega arith
 count-high (separation e c0 c1 s) = omega arith
 count-high (indexed h t s) = omega arith
+
+pub limits-high : (s : Space) → limitCount s ≤ places
+limits-high none = omega arith
+limits-high gray = omega arith
+limits-high rgb = omega arith
+limits-high cmyk = omega arith
+limits-high (calGray k) = omega arith
+limits-high (calRgb k) = omega arith
+limits-high (lab k al ah bl bh) = omega arith
+limits-high noMark = omega arith
+limits-high everyInk = omega arith
+limits-high (separation e c0 c1 s) = omega arith
+limits-high (indexed h t s) = omega arith
 
 pub table-length : (page : List ℕ) (n hival : ℕ) (s : Space) → length (tableOf page n hival s) ≡ countOf s * (hival + 1)
 unfolding tableOf

@@ -10,26 +10,29 @@ use Rattle.fixed.specs.Numbers.{paletteValue}
 use Rattle.fixed.specs.Values.{places, value, listed}
 use Rattle.fixed.proofs.Listed.{listed-value}
 use Rattle.cie.specs.declared.Closing.{Closing}
-use Rattle.cie.specs.declared.Closing.the-variants.{Nothing, Gray, Rgb, Cmyk, CalGray, CalRgb, Lab}
+use Rattle.cie.specs.declared.Closing.the-variants.{Nothing, Gray, Rgb, Cmyk, CalGray, CalRgb, Lab, NoMark, EveryInk}
 use Rattle.record.specs.declared.types.Ranges.{Ranges}
-use Rattle.space.specs.Spaces.{Space, countOf, lowOf, highOf, wordsOf}
+use Rattle.space.specs.Spaces.{Space, countOf, limitCount, lowOf, highOf, wordsOf}
 use Rattle.space.specs.Numbers.{paletteByte}
 use Rattle.space.specs.Pages.{entryOf}
-use Rattle.space.specs.Levels.{plainIn, noRanges, isLab, Ranged}
+use Rattle.space.specs.Levels.{plainIn, noRanges, isLab, Ends, Ranged}
 
 never : {A : Type 0} → false ≡ true → A
 never e = absurd (true≢false (sym e))
 
 module _ (q : Ranges) where
-  -- the count and the words are the same whatever the ranges
+  -- the counts and the words are the same whatever the ranges
   pub whatever : (c : Closing) → (countOf (plainIn c noRanges) ≡ countOf (plainIn c q)) × (wordsOf (plainIn c noRanges) ≡ wordsOf (plainIn c q))
-  whatever Nothing = (refl, refl)
-  whatever Gray = (refl, refl)
-  whatever Rgb = (refl, refl)
-  whatever Cmyk = (refl, refl)
-  whatever (CalGray k) = (refl, refl)
-  whatever (CalRgb k) = (refl, refl)
-  whatever (Lab k) = (refl, refl)
+      × (limitCount (plainIn c noRanges) ≡ limitCount (plainIn c q))
+  whatever Nothing = (refl, refl, refl)
+  whatever Gray = (refl, refl, refl)
+  whatever Rgb = (refl, refl, refl)
+  whatever Cmyk = (refl, refl, refl)
+  whatever (CalGray k) = (refl, refl, refl)
+  whatever (CalRgb k) = (refl, refl, refl)
+  whatever (Lab k) = (refl, refl, refl)
+  whatever NoMark = (refl, refl, refl)
+  whatever EveryInk = (refl, refl, refl)
 
   pub lab-ends : (c : Closing) → isLab c ≡ true
       → ((pos 0 ∷ q .amin ∷ q .bmin ∷ q .bmin ∷ []) ≡ listed (lowOf (plainIn c q)) places) × ((pos 100000000 ∷ q .amax ∷ q .bmax ∷ q .bmax ∷ []) ≡ listed (highOf (plainIn c q)) places)
@@ -41,6 +44,8 @@ module _ (q : Ranges) where
   lab-ends (CalGray k) e = never e
   lab-ends (CalRgb k) e = never e
   lab-ends (Lab k) e = (refl, refl)
+  lab-ends NoMark e = never e
+  lab-ends EveryInk e = never e
 
   pub unit-ends : (c : Closing) → isLab c ≡ false
       → ((pos 0 ∷ pos 0 ∷ pos 0 ∷ pos 0 ∷ []) ≡ listed (lowOf (plainIn c q)) places) × ((pos 1000000 ∷ pos 1000000 ∷ pos 1000000 ∷ pos 1000000 ∷ []) ≡ listed (highOf (plainIn c q)) places)
@@ -52,9 +57,11 @@ module _ (q : Ranges) where
   unit-ends (CalGray k) e = (refl, refl)
   unit-ends (CalRgb k) e = (refl, refl)
   unit-ends (Lab k) e = never (sym e)
+  unit-ends NoMark e = (refl, refl)
+  unit-ends EveryInk e = (refl, refl)
 
 -- each end is that of its component
-module _ {s : Space} {m : ℕ} {lo hi : List ℤ} (r : Ranged s m lo hi) (k : ℕ) (l : k < places) where
+module _ {s : Space} {lo hi : List ℤ} (r : Ends s lo hi) (k : ℕ) (l : k < places) where
   pub low-at : value lo k ≡ lowOf s k
   low-at = ap (λ (x : List ℤ). value x k) (r .low) ∙ listed-value (lowOf s) places k l
 
@@ -67,4 +74,4 @@ pub entry-is : (page : List ℕ) (n j : ℕ) {s : Space} {m : ℕ} {lo hi : List
 unfolding entryOf
 entry-is page n j {s} {m} r some few b x y eb ex ey =
     let l : j % m < places = omega (arith, mod-lt j some) in
-    rw (eb, ex ∙ low-at r (j % m) l, ey ∙ high-at r (j % m) l, r .count)
+    rw (eb, ex ∙ low-at (r .ends) (j % m) l, ey ∙ high-at (r .ends) (j % m) l, r .count)

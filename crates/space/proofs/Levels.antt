@@ -9,16 +9,16 @@ use lib.Dec.{eqb, ltb}
 use Rattle.fixed.specs.Bytes.{blocks, grayCode, rgbCode, cmykCode, blockAt}
 use Rattle.fixed.proofs.Decide.{cond-ind}
 use Rattle.cie.specs.declared.Closing.{Closing}
-use Rattle.cie.specs.declared.Closing.the-variants.{Nothing, Gray, Rgb, Cmyk}
-use Rattle.record.specs.Reading.{bodyAt}
+use Rattle.cie.specs.declared.Closing.the-variants.{Nothing, Gray, Rgb, Cmyk, NoMark, EveryInk}
+use Rattle.record.specs.Reading.{bodyAt, theNone, theAll, nameIs}
 use Rattle.record.specs.declared.types.Ranges.{Ranges}
 use Rattle.record.specs.declared.types.Separation.{Separation as Ink}
 use Rattle.record.specs.declared.types.Body.{Body}
 use Rattle.record.specs.declared.types.Body.the-variants.{Free, CalGray, CalRgb, Lab, Indexed as IndexedBody, Separation as SeparationBody, Palette}
-use Rattle.space.specs.Spaces.{Space, none, gray, rgb, cmyk, calGray, calRgb, lab, separation, indexed}
-use Rattle.space.specs.Pages.{deviceOf, numbered, plainOf, plainAt, separationOver, tintedOf, tintedAt, indexedOver, spaceOf, spaceAt}
+use Rattle.space.specs.Spaces.{Space, none, gray, rgb, cmyk, calGray, calRgb, lab, noMark, everyInk, separation, indexed}
+use Rattle.space.specs.Pages.{deviceOf, numbered, plainOf, plainAt, separationOver, inkOf, tintedOf, tintedAt, indexedOver, spaceOf, spaceAt}
 use Rattle.space.specs.WellMade.{rankOf}
-use Rattle.space.specs.Levels.{plainIn, spaceIn, rankIn, noRanges, nothing, levelOf, deviceClosing, levelAt}
+use Rattle.space.specs.Levels.{plainIn, spaceIn, rankIn, noRanges, nothing, isNamed, inkLevel, levelOf, deviceClosing, levelAt}
 use Rattle.space.specs.declared.nesting.Level.{Level}
 use Rattle.space.specs.declared.nesting.Level.the-variants.{Plain, Separation, Indexed}
 
@@ -31,7 +31,7 @@ tinted (Separation p) = Separation p
 tinted (Indexed n base hival) = nothing
 
 abbrev pub plain : Level → Level
-plain (Plain c q) = Plain c q
+plain (Plain c q) = cond (isNamed c) nothing (Plain c q)
 plain (Separation p) = nothing
 plain (Indexed n base hival) = nothing
 
@@ -46,7 +46,7 @@ tinted-rank (Separation p) = omega arith
 tinted-rank (Indexed n base hival) = omega arith
 
 plain-falls : (l : Level) → rankIn (plain l) < 1
-plain-falls (Plain c q) = omega arith
+plain-falls (Plain c q) = cond-ind (λ (l : Level). rankIn l < 1) (isNamed c) (λ _. omega arith) (λ _. omega arith)
 plain-falls (Separation p) = omega arith
 plain-falls (Indexed n base hival) = omega arith
 
@@ -61,56 +61,96 @@ device-is : (n : ℕ) (q : Ranges) → plainIn (deviceClosing n) q ≡ deviceOf 
 unfolding deviceClosing deviceOf
 device-is n q = by-code (eqb n grayCode) (eqb n rgbCode) (eqb n cmykCode) q
 
+-- which is no Separation's
+device-plain : (n : ℕ) (q : Ranges) → plain (Plain (deviceClosing n) q) ≡ Plain (deviceClosing n) q
+unfolding deviceClosing
+device-plain n q = by-codes (eqb n grayCode) (eqb n rgbCode) (eqb n cmykCode)
+  where
+    by-codes : (a b c : Bool) → plain (Plain (cond a Gray (cond b Rgb (cond c Cmyk Nothing))) q) ≡ Plain (cond a Gray (cond b Rgb (cond c Cmyk Nothing))) q
+    by-codes true b c = refl
+    by-codes false true c = refl
+    by-codes false false true = refl
+    by-codes false false false = refl
+
 module _ (page : List ℕ) (n : ℕ) where
   -- g is what is taken of a level, and f of a body
-  module _ (g : Level → Level) (keeps : (c : Closing) → g (Plain c noRanges) ≡ Plain c noRanges) (f : Body → Space) (same : (y : Body) → spaceIn page (g (levelOf n y)) ≡ f y) where
-    by-size : (t : Bool) → spaceIn page (g (cond t (levelOf n (bodyAt (blockAt page n))) (Plain (deviceClosing n) noRanges))) ≡ cond t (f (bodyAt (blockAt page n))) (deviceOf n)
+  module _ (g : Level → Level) (keeps : g (Plain (deviceClosing n) noRanges) ≡ Plain (deviceClosing n) noRanges) (f : Body → Space) (same : (y : Body) → spaceIn page (g (levelOf page n y)) ≡ f y) where
+    by-size : (t : Bool) → spaceIn page (g (cond t (levelOf page n (bodyAt (blockAt page n))) (Plain (deviceClosing n) noRanges))) ≡ cond t (f (bodyAt (blockAt page n))) (deviceOf n)
     unfolding spaceIn
     by-size true = same _
-    by-size false = rw (keeps (deviceClosing n)) (device-is n noRanges)
+    by-size false = rw keeps (device-is n noRanges)
 
     level-is : spaceIn page (g (levelAt page n)) ≡ numbered page f n
     unfolding levelAt
     level-is = by-size (ltb n blocks)
 
-  same-space : (y : Body) → spaceIn page (levelOf n y) ≡ spaceOf page n y
+  -- a Separation by its name: the level is taken, and the space is that of the definition; nothing of it is plain
+  module _ (p : Ink) where
+    ink-is : spaceIn page (inkLevel page n p) ≡ inkOf page n p
+    unfolding spaceIn inkLevel inkOf
+    ink-is = by-names (nameIs (blockAt page n) theNone) (nameIs (blockAt page n) theAll)
+      where
+        by-names : (a b : Bool) → spaceIn page (cond a (Plain NoMark noRanges) (cond b (Plain EveryInk noRanges) (Separation p))) ≡ cond a noMark (cond b everyInk (separationOver p (plainAt page (p .alternate))))
+        by-names true b = refl
+        by-names false true = refl
+        by-names false false = refl
+
+    ink-tinted : tinted (inkLevel page n p) ≡ inkLevel page n p
+    unfolding inkLevel
+    ink-tinted = by-names (nameIs (blockAt page n) theNone) (nameIs (blockAt page n) theAll)
+      where
+        by-names : (a b : Bool) → tinted (cond a (Plain NoMark noRanges) (cond b (Plain EveryInk noRanges) (Separation p))) ≡ cond a (Plain NoMark noRanges) (cond b (Plain EveryInk noRanges) (Separation p))
+        by-names true b = refl
+        by-names false true = refl
+        by-names false false = refl
+
+    ink-plain : plain (inkLevel page n p) ≡ nothing
+    unfolding inkLevel
+    ink-plain = by-names (nameIs (blockAt page n) theNone) (nameIs (blockAt page n) theAll)
+      where
+        by-names : (a b : Bool) → plain (cond a (Plain NoMark noRanges) (cond b (Plain EveryInk noRanges) (Separation p))) ≡ nothing
+        by-names true b = refl
+        by-names false true = refl
+        by-names false false = refl
+
+  same-space : (y : Body) → spaceIn page (levelOf page n y) ≡ spaceOf page n y
   unfolding spaceIn levelOf spaceOf tintedOf plainOf
   same-space Free = refl
   same-space (CalGray g) = refl
   same-space (CalRgb g) = refl
   same-space (Lab g) = refl
   same-space (IndexedBody base hival) = refl
-  same-space (SeparationBody p) = refl
+  same-space (SeparationBody p) = ink-is p
   same-space Palette = refl
 
-  same-tinted : (y : Body) → spaceIn page (tinted (levelOf n y)) ≡ tintedOf page y
+  same-tinted : (y : Body) → spaceIn page (tinted (levelOf page n y)) ≡ tintedOf page n y
   unfolding spaceIn levelOf tintedOf plainOf
   same-tinted Free = refl
   same-tinted (CalGray g) = refl
   same-tinted (CalRgb g) = refl
   same-tinted (Lab g) = refl
   same-tinted (IndexedBody base hival) = refl
-  same-tinted (SeparationBody p) = refl
+  same-tinted (SeparationBody p) = ap (spaceIn page) (ink-tinted p) ∙ ink-is p
   same-tinted Palette = refl
 
-  same-plain : (y : Body) → spaceIn page (plain (levelOf n y)) ≡ plainOf y
+  same-plain : (y : Body) → spaceIn page (plain (levelOf page n y)) ≡ plainOf y
   unfolding spaceIn levelOf plainOf
   same-plain Free = refl
   same-plain (CalGray g) = refl
   same-plain (CalRgb g) = refl
   same-plain (Lab g) = refl
   same-plain (IndexedBody base hival) = refl
-  same-plain (SeparationBody p) = refl
+  same-plain (SeparationBody p) = ap (spaceIn page) (ink-plain p)
   same-plain Palette = refl
 
   space-is : spaceIn page (levelAt page n) ≡ spaceAt page n
-  space-is = level-is (λ l. l) (λ _. refl) (spaceOf page n) same-space
+  space-is = level-is (λ l. l) refl (spaceOf page n) same-space
 
   tinted-is : spaceIn page (tinted (levelAt page n)) ≡ tintedAt page n
-  tinted-is = level-is tinted (λ _. refl) (tintedOf page) same-tinted
+  tinted-is = level-is tinted refl (tintedOf page n) same-tinted
 
   plain-is : spaceIn page (plain (levelAt page n)) ≡ plainAt page n
-  plain-is = level-is plain (λ _. refl) plainOf same-plain
+  plain-is = level-is plain (device-plain n noRanges) plainOf same-plain
 
 -- the same in the code's own terms: l is what it read, and r what it took of that
 module _ (page : List ℕ) (n : ℕ) {l : Level} (e : l ≡ levelAt page n) where
@@ -157,32 +197,35 @@ module _ (page : List ℕ) (P : Space → Type 0) (plains : (s : Space) → rank
   over-plain : (y : Body) → P (plainOf y)
   over-plain y = plains _ (body-rank y)
 
-  over-tinted : (y : Body) → P (tintedOf page y)
-  unfolding tintedOf
-  over-tinted Free = over-plain Free
-  over-tinted (CalGray g) = over-plain (CalGray g)
-  over-tinted (CalRgb g) = over-plain (CalRgb g)
-  over-tinted (Lab g) = over-plain (Lab g)
-  over-tinted (IndexedBody base hival) = over-plain (IndexedBody base hival)
-  over-tinted (SeparationBody p) = separated p (plainAt page (p .alternate)) (plain-rank page (p .alternate)) (plains _ (plain-rank page (p .alternate)))
-  over-tinted Palette = over-plain Palette
+  over-tinted : (n : ℕ) (y : Body) → P (tintedOf page n y)
+  unfolding tintedOf inkOf
+  over-tinted n Free = over-plain Free
+  over-tinted n (CalGray g) = over-plain (CalGray g)
+  over-tinted n (CalRgb g) = over-plain (CalRgb g)
+  over-tinted n (Lab g) = over-plain (Lab g)
+  over-tinted n (IndexedBody base hival) = over-plain (IndexedBody base hival)
+  over-tinted n (SeparationBody p) =
+      cond-ind P (nameIs (blockAt page n) theNone) (λ _. plains noMark (omega arith)) (λ _.
+      cond-ind P (nameIs (blockAt page n) theAll) (λ _. plains everyInk (omega arith)) (λ _.
+      separated p (plainAt page (p .alternate)) (plain-rank page (p .alternate)) (plains _ (plain-rank page (p .alternate)))))
+  over-tinted n Palette = over-plain Palette
 
   among : (f : Body → Space) (n : ℕ) → P (f (bodyAt (blockAt page n))) → P (numbered page f n)
   among = numbered-ind P (plains none (omega arith)) (plains gray (omega arith)) (plains rgb (omega arith)) (plains cmyk (omega arith)) page
 
   pub tinted-ind : (n : ℕ) → P (tintedAt page n)
-  tinted-ind n = among (tintedOf page) n (over-tinted _)
+  tinted-ind n = among (tintedOf page n) n (over-tinted n _)
 
   module _ (indexes : (n hival : ℕ) (s : Space) → P s → P (indexedOver page n hival s)) where
     over-space : (n : ℕ) (y : Body) → P (spaceOf page n y)
     unfolding spaceOf
-    over-space n Free = over-tinted Free
-    over-space n (CalGray g) = over-tinted (CalGray g)
-    over-space n (CalRgb g) = over-tinted (CalRgb g)
-    over-space n (Lab g) = over-tinted (Lab g)
+    over-space n Free = over-tinted n Free
+    over-space n (CalGray g) = over-tinted n (CalGray g)
+    over-space n (CalRgb g) = over-tinted n (CalRgb g)
+    over-space n (Lab g) = over-tinted n (Lab g)
     over-space n (IndexedBody base hival) = indexes n hival (tintedAt page base) (tinted-ind base)
-    over-space n (SeparationBody p) = over-tinted (SeparationBody p)
-    over-space n Palette = over-tinted Palette
+    over-space n (SeparationBody p) = over-tinted n (SeparationBody p)
+    over-space n Palette = over-tinted n Palette
 
     pub space-ind : (n : ℕ) → P (spaceAt page n)
     space-ind n = among (spaceOf page n) n (over-space n _)
@@ -197,5 +240,7 @@ by-rank P a b c cmyk = a cmyk (omega arith)
 by-rank P a b c (calGray k) = a (calGray k) (omega arith)
 by-rank P a b c (calRgb k) = a (calRgb k) (omega arith)
 by-rank P a b c (lab k al ah bl bh) = a (lab k al ah bl bh) (omega arith)
+by-rank P a b c noMark = a noMark (omega arith)
+by-rank P a b c everyInk = a everyInk (omega arith)
 by-rank P a b c (separation e c0 c1 s) = b e c0 c1 s
 by-rank P a b c (indexed h t s) = c h t s

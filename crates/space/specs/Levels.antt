@@ -8,12 +8,13 @@ use lib.Dec.{ltb, eqb}
 use Rattle.fixed.specs.Bytes.{blocks, grayCode, rgbCode, cmykCode, blockAt}
 use Rattle.fixed.specs.Values.{places, listed}
 use Rattle.cie.specs.declared.Closing.{Closing}
-use Rattle.cie.specs.declared.Closing.the-variants.{Nothing, Gray, Rgb, Cmyk, CalGray, CalRgb, Lab}
-use Rattle.record.specs.Reading.{bodyAt}
+use Rattle.cie.specs.declared.Closing.the-variants.{Nothing, Gray, Rgb, Cmyk, CalGray, CalRgb, Lab, NoMark, EveryInk}
+use Rattle.record.specs.Reading.{bodyAt, theNone, theAll, nameIs}
 use Rattle.record.specs.declared.types.Ranges.{Ranges}
+use Rattle.record.specs.declared.types.Separation.{Separation as Ink}
 use Rattle.record.specs.declared.types.Body.{Body}
 use Rattle.record.specs.declared.types.Body.the-variants.{Free, CalGray as GrayBody, CalRgb as RgbBody, Lab as LabBody, Indexed as IndexedBody, Separation as SeparationBody, Palette}
-use Rattle.space.specs.Spaces.{Space, none, gray, rgb, cmyk, calGray, calRgb, lab, countOf, lowOf, highOf}
+use Rattle.space.specs.Spaces.{Space, none, gray, rgb, cmyk, calGray, calRgb, lab, noMark, everyInk, countOf, lowOf, highOf}
 use Rattle.space.specs.Pages.{grayNumbers, rgbNumbers, labNumbers, plainAt, separationOver, tintedAt, indexedOver}
 use Rattle.space.specs.declared.nesting.Level.{Level}
 use Rattle.space.specs.declared.nesting.Level.the-variants.{Plain, Separation, Indexed}
@@ -27,6 +28,8 @@ plainIn Cmyk q = cmyk
 plainIn (CalGray k) q = calGray k
 plainIn (CalRgb k) q = calRgb k
 plainIn (Lab k) q = lab k (q .amin) (q .amax) (q .bmin) (q .bmax)
+plainIn NoMark q = noMark
+plainIn EveryInk q = everyInk
 
 -- the ranges of a space that has none in its record
 abbrev pub noRanges : Ranges
@@ -53,19 +56,40 @@ isLab Cmyk = false
 isLab (CalGray k) = false
 isLab (CalRgb k) = false
 isLab (Lab k) = true
+isLab NoMark = false
+isLab EveryInk = false
+
+-- whether it is that of a Separation named None or All
+abbrev pub isNamed : Closing → Bool
+isNamed Nothing = false
+isNamed Gray = false
+isNamed Rgb = false
+isNamed Cmyk = false
+isNamed (CalGray k) = false
+isNamed (CalRgb k) = false
+isNamed (Lab k) = false
+isNamed NoMark = true
+isNamed EveryInk = true
 
 abbrev pub nothing : Level
 nothing = Plain Nothing noRanges
 
+-- that of the Separation p of block n, whose name decides
+unfoldable pub inkLevel : List ℕ → ℕ → Ink → Level
+inkLevel page n p =
+    cond (nameIs (blockAt page n) theNone) (Plain NoMark noRanges)
+    (cond (nameIs (blockAt page n) theAll) (Plain EveryInk noRanges)
+    (Separation p))
+
 -- the level of block n, whose body is given
-unfoldable pub levelOf : ℕ → Body → Level
-levelOf n Free = nothing
-levelOf n (GrayBody g) = Plain (CalGray (grayNumbers g)) noRanges
-levelOf n (RgbBody g) = Plain (CalRgb (rgbNumbers g)) noRanges
-levelOf n (LabBody g) = Plain (Lab (labNumbers g)) (g .range)
-levelOf n (IndexedBody base hival) = Indexed n base hival
-levelOf n (SeparationBody p) = Separation p
-levelOf n Palette = nothing
+unfoldable pub levelOf : List ℕ → ℕ → Body → Level
+levelOf page n Free = nothing
+levelOf page n (GrayBody g) = Plain (CalGray (grayNumbers g)) noRanges
+levelOf page n (RgbBody g) = Plain (CalRgb (rgbNumbers g)) noRanges
+levelOf page n (LabBody g) = Plain (Lab (labNumbers g)) (g .range)
+levelOf page n (IndexedBody base hival) = Indexed n base hival
+levelOf page n (SeparationBody p) = inkLevel page n p
+levelOf page n Palette = nothing
 
 -- the closing step of a device space, by its code
 unfoldable pub deviceClosing : ℕ → Closing
@@ -73,10 +97,14 @@ deviceClosing n = cond (eqb n grayCode) Gray (cond (eqb n rgbCode) Rgb (cond (eq
 
 -- the level at a number of a page
 unfoldable pub levelAt : List ℕ → ℕ → Level
-levelAt page n = cond (ltb n blocks) (levelOf n (bodyAt (blockAt page n))) (Plain (deviceClosing n) noRanges)
+levelAt page n = cond (ltb n blocks) (levelOf page n (bodyAt (blockAt page n))) (Plain (deviceClosing n) noRanges)
 
--- what a loop over the components of a space s has of it: their count m, and the ends of their ranges
-pub record Ranged (s : Space) (m : ℕ) (lo hi : List ℤ) : Type 0 where
-  pub count : m ≡ countOf s
+-- what a loop over the components of a space s has of it: the ends of their ranges
+pub record Ends (s : Space) (lo hi : List ℤ) : Type 0 where
   pub low : lo ≡ listed (lowOf s) places
   pub high : hi ≡ listed (highOf s) places
+
+-- and their count m with them
+pub record Ranged (s : Space) (m : ℕ) (lo hi : List ℤ) : Type 0 where
+  pub count : m ≡ countOf s
+  pub ends : Ends s lo hi

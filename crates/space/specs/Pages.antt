@@ -13,7 +13,7 @@ use Rattle.cie.specs.declared.GrayClosing.{GrayClosing}
 use Rattle.cie.specs.declared.RgbClosing.{RgbClosing}
 use Rattle.cie.specs.declared.LabClosing.{LabClosing}
 use Rattle.record.specs.Layout.{entriesOf}
-use Rattle.record.specs.Reading.{bodyAt}
+use Rattle.record.specs.Reading.{bodyAt, theNone, theAll, nameIs}
 use Rattle.record.specs.declared.types.CalGray.{CalGray as GraySpace}
 use Rattle.record.specs.declared.types.CalRgb.{CalRgb as RgbSpace}
 use Rattle.record.specs.declared.types.Lab.{Lab as LabSpace}
@@ -21,7 +21,7 @@ use Rattle.record.specs.declared.types.Separation.{Separation as Ink}
 use Rattle.record.specs.declared.types.Body.{Body}
 use Rattle.record.specs.declared.types.Body.the-variants.{Free, CalGray, CalRgb, Lab, Indexed, Separation, Palette}
 use Rattle.space.specs.Numbers.{paletteByte}
-use Rattle.space.specs.Spaces.{Space, none, gray, rgb, cmyk, calGray, calRgb, lab, separation, indexed, countOf, lowOf, highOf}
+use Rattle.space.specs.Spaces.{Space, none, gray, rgb, cmyk, calGray, calRgb, lab, noMark, everyInk, separation, indexed, countOf, lowOf, highOf}
 
 -- the numbers of a record that its closing step has: X and Z of the white point, gammas, the matrix
 abbrev pub grayNumbers : GraySpace → GrayClosing
@@ -78,18 +78,25 @@ c1Of p s = take (countOf s) (entriesOf (p .c1))
 abbrev pub separationOver : Ink → Space → Space
 separationOver p s = separation (p .exponent) (c0Of p s) (c1Of p s) s
 
--- a Separation over a plain space, or a plain space
-unfoldable pub tintedOf : List ℕ → Body → Space
-tintedOf page Free = plainOf Free
-tintedOf page (CalGray g) = plainOf (CalGray g)
-tintedOf page (CalRgb g) = plainOf (CalRgb g)
-tintedOf page (Lab g) = plainOf (Lab g)
-tintedOf page (Indexed base hival) = plainOf (Indexed base hival)
-tintedOf page (Separation p) = separationOver p (plainAt page (p .alternate))
-tintedOf page Palette = plainOf Palette
+-- the Separation p of block n: one named None never marks, one named All is every ink, and any other is answered in its alternate space
+unfoldable pub inkOf : List ℕ → ℕ → Ink → Space
+inkOf page n p =
+    cond (nameIs (blockAt page n) theNone) noMark
+    (cond (nameIs (blockAt page n) theAll) everyInk
+    (separationOver p (plainAt page (p .alternate))))
+
+-- block n with the body given: a Separation, or a plain space
+unfoldable pub tintedOf : List ℕ → ℕ → Body → Space
+tintedOf page n Free = plainOf Free
+tintedOf page n (CalGray g) = plainOf (CalGray g)
+tintedOf page n (CalRgb g) = plainOf (CalRgb g)
+tintedOf page n (Lab g) = plainOf (Lab g)
+tintedOf page n (Indexed base hival) = plainOf (Indexed base hival)
+tintedOf page n (Separation p) = inkOf page n p
+tintedOf page n Palette = plainOf Palette
 
 abbrev pub tintedAt : List ℕ → ℕ → Space
-tintedAt page n = numbered page (tintedOf page) n
+tintedAt page n = numbered page (tintedOf page n) n
 
 -- entry j of the table of the Indexed block n over the base s: a palette byte, over the range of its component
 unfoldable pub entryOf : List ℕ → ℕ → Space → ℕ → ℤ
@@ -112,13 +119,13 @@ rowAt page n hival s v = rowStep (countOf s) hival (tableOf page n hival s) v
 
 -- an Indexed over one of those, or one of those
 unfoldable pub spaceOf : List ℕ → ℕ → Body → Space
-spaceOf page n Free = tintedOf page Free
-spaceOf page n (CalGray g) = tintedOf page (CalGray g)
-spaceOf page n (CalRgb g) = tintedOf page (CalRgb g)
-spaceOf page n (Lab g) = tintedOf page (Lab g)
+spaceOf page n Free = tintedOf page n Free
+spaceOf page n (CalGray g) = tintedOf page n (CalGray g)
+spaceOf page n (CalRgb g) = tintedOf page n (CalRgb g)
+spaceOf page n (Lab g) = tintedOf page n (Lab g)
 spaceOf page n (Indexed base hival) = indexedOver page n hival (tintedAt page base)
-spaceOf page n (Separation p) = tintedOf page (Separation p)
-spaceOf page n Palette = tintedOf page Palette
+spaceOf page n (Separation p) = tintedOf page n (Separation p)
+spaceOf page n Palette = tintedOf page n Palette
 
 abbrev pub spaceAt : List ℕ → ℕ → Space
 spaceAt page n = numbered page (spaceOf page n) n

@@ -8,10 +8,11 @@ use Rattle.cie.specs.declared.GrayClosing.{GrayClosing}
 use Rattle.cie.specs.declared.RgbClosing.{RgbClosing}
 use Rattle.cie.specs.declared.LabClosing.{LabClosing}
 use Rattle.cie.specs.declared.Closing.{Closing}
-use Rattle.cie.specs.declared.Closing.the-variants.{Nothing, Gray, Rgb, Cmyk, CalGray, CalRgb, Lab}
+use Rattle.cie.specs.declared.Closing.the-variants.{Nothing, Gray, Rgb, Cmyk, CalGray, CalRgb, Lab, NoMark, EveryInk}
 
--- `none` is what a number that is no space's stands for. lab: amin amax bmin bmax. separation: the exponent, C0 and C1 of the alternate's count, and
--- the alternate. indexed: hival, the palette's values row by row, and the base.
+-- `none` is what a number that is no space's stands for. lab: amin amax bmin bmax. noMark and everyInk: a Separation named None, and one named All.
+-- separation, of any other name: the exponent, C0 and C1 of the alternate's count, and the alternate. indexed: hival, the palette's values row by row, and
+-- the base.
 pub data Space : Type 0 where
   none : Space
   gray : Space
@@ -20,6 +21,8 @@ pub data Space : Type 0 where
   calGray : GrayClosing → Space
   calRgb : RgbClosing → Space
   lab : LabClosing → ℤ → ℤ → ℤ → ℤ → Space
+  noMark : Space
+  everyInk : Space
   separation : ℕ → List ℤ → List ℤ → Space → Space
   indexed : ℕ → List ℤ → Space → Space
 
@@ -32,6 +35,8 @@ countOf cmyk = 4
 countOf (calGray k) = 1
 countOf (calRgb k) = 3
 countOf (lab k al ah bl bh) = 3
+countOf noMark = 1
+countOf everyInk = 1
 countOf (separation e c0 c1 s) = 1
 countOf (indexed h t s) = 1
 
@@ -47,6 +52,8 @@ lowOf cmyk k = pos 0
 lowOf (calGray g) k = pos 0
 lowOf (calRgb g) k = pos 0
 lowOf (lab g al ah bl bh) k = pick3 (pos 0) al bl k
+lowOf noMark k = pos 0
+lowOf everyInk k = pos 0
 lowOf (separation e c0 c1 s) k = pos 0
 lowOf (indexed h t s) k = pos 0
 
@@ -58,8 +65,24 @@ highOf cmyk k = pos 1000000
 highOf (calGray g) k = pos 1000000
 highOf (calRgb g) k = pos 1000000
 highOf (lab g al ah bl bh) k = pick3 (pos 100000000) ah bh k
+highOf noMark k = pos 1000000
+highOf everyInk k = pos 1000000
 highOf (separation e c0 c1 s) k = pos 1000000
 highOf (indexed h t s) k = pos 1000000
+
+-- how many of its components are limited: all, but that of a Separation named None
+abbrev pub limitCount : Space → ℕ
+limitCount none = 0
+limitCount gray = 1
+limitCount rgb = 3
+limitCount cmyk = 4
+limitCount (calGray k) = 1
+limitCount (calRgb k) = 3
+limitCount (lab k al ah bl bh) = 3
+limitCount noMark = 0
+limitCount everyInk = 1
+limitCount (separation e c0 c1 s) = 1
+limitCount (indexed h t s) = 1
 
 -- the closing step of a plain space
 abbrev pub closingOf : Space → Closing
@@ -70,10 +93,12 @@ closingOf cmyk = Cmyk
 closingOf (calGray k) = CalGray k
 closingOf (calRgb k) = CalRgb k
 closingOf (lab k al ah bl bh) = Lab k
+closingOf noMark = NoMark
+closingOf everyInk = EveryInk
 closingOf (separation e c0 c1 s) = Nothing
 closingOf (indexed h t s) = Nothing
 
--- the words of its recipe: Gray 6, RGB 14, CMYK 18, CalGray 9, CalRGB 26, Lab 16; Indexed adds 3 + m (hival + 1), Separation 3 + 2m, m being the
+-- the words of its recipe: Gray 6, RGB 14, CMYK 18, CalGray 9, CalRGB 26, Lab 16; None 2, All 6; Indexed adds 3 + m (hival + 1), Separation 3 + 2m, m being the
 -- count of the space within. For `none` no recipe is written: it would be its count alone
 abbrev pub wordsOf : Space → ℕ
 wordsOf none = 1
@@ -83,5 +108,7 @@ wordsOf cmyk = 18
 wordsOf (calGray k) = 9
 wordsOf (calRgb k) = 26
 wordsOf (lab k al ah bl bh) = 16
+wordsOf noMark = 2
+wordsOf everyInk = 6
 wordsOf (separation e c0 c1 s) = 3 + 2 * countOf s + wordsOf s
 wordsOf (indexed h t s) = 3 + countOf s * (h + 1) + wordsOf s

@@ -5,7 +5,7 @@ use mathlib.Core.Bool.{true, false}
 use lib.Signed.{ltZ}
 use lib.ListN.{length}
 use Rattle.fixed.specs.Numbers.{exponentSupported, gammaSupported}
-use Rattle.space.specs.Spaces.{Space, none, gray, rgb, cmyk, calGray, calRgb, lab, separation, indexed, countOf}
+use Rattle.space.specs.Spaces.{Space, none, gray, rgb, cmyk, calGray, calRgb, lab, noMark, everyInk, separation, indexed, countOf}
 
 -- nesting falls: Indexed 2, Separation 1, plain 0
 abbrev pub rankOf : Space → ℕ
@@ -16,6 +16,8 @@ rankOf cmyk = 0
 rankOf (calGray k) = 0
 rankOf (calRgb k) = 0
 rankOf (lab k al ah bl bh) = 0
+rankOf noMark = 0
+rankOf everyInk = 0
 rankOf (separation e c0 c1 s) = 1
 rankOf (indexed h t s) = 2
 
@@ -28,5 +30,7 @@ WellMade cmyk = Unit {0}
 WellMade (calGray k) = gammaSupported (k .gamma) ≡ true
 WellMade (calRgb k) = (gammaSupported (k .ga) ≡ true) × (gammaSupported (k .gb) ≡ true) × (gammaSupported (k .gc) ≡ true)
 WellMade (lab k al ah bl bh) = (ltZ ah al ≡ false) × (ltZ bh bl ≡ false)
+WellMade noMark = Unit {0}
+WellMade everyInk = Unit {0}
 WellMade (separation e c0 c1 s) = (exponentSupported e ≡ true) × (length c0 ≡ countOf s) × (length c1 ≡ countOf s) × (rankOf s < 1) × WellMade s
 WellMade (indexed h t s) = (h ≤ 255) × (length t ≡ countOf s * (h + 1)) × (rankOf s < 2) × WellMade s

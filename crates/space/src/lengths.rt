@@ -24,6 +24,8 @@ fn plain_words(c: Closing) -> u32
         Closing::CalGray(_) => 9,
         Closing::CalRgb(_) => 26,
         Closing::Lab(_) => 16,
+        Closing::NoMark => 2,
+        Closing::EveryInk => 6,
     }
 }
 

@@ -18,6 +18,7 @@ pub use palette::entry;
 pub use ranges::components;
 pub use ranges::count;
 pub use ranges::highs;
+pub use ranges::limit_count;
 pub use ranges::lows;
 pub use ranges::plain_count;
 pub use ranges::plain_highs;

@@ -3,7 +3,7 @@ ghost use mathlib.Core.Path.{_≡_};
 ghost use mathlib.Core.List.{List};
 ghost use Prim.Native.Nat.{ℕ, _<_};
 ghost use Rattle.space.specs.Pages.{grayNumbers, rgbNumbers, labNumbers, plainAt, tintedAt};
-ghost use Rattle.space.specs.Levels.{spaceIn, rankIn, noRanges, nothing, levelOf, deviceClosing, levelAt};
+ghost use Rattle.space.specs.Levels.{spaceIn, rankIn, noRanges, nothing, isNamed, inkLevel, levelOf, deviceClosing, levelAt};
 use cie::Closing;
 use cie::GrayClosing;
 use cie::LabClosing;
@@ -16,12 +16,14 @@ use record::Lab;
 use record::Ranges;
 use record::Separation;
 use record::body_at;
+use record::is_name;
 
 // What a number stands for, as far as the next space within.
 pub enum Level {
-    // A device space, CalGray, CalRGB or Lab: its closing step, and a Lab's ranges. A number that is no space's has the closing step of nothing.
+    // A device space, CalGray, CalRGB or Lab, or a Separation named None or All: its closing step, and a Lab's ranges. A number that is no space's has the
+    // closing step of nothing.
     Plain(Closing, Ranges),
-    // A Separation, with the number of its alternate.
+    // A Separation of any other name, with the number of its alternate.
     Separation(Separation),
     // The Indexed space of a block, with the number of its base.
     Indexed { block: u16, base: u16, hival: u16 },
@@ -96,9 +98,22 @@ fn lab_level(g: Lab) -> Level
     Level::Plain(Closing::Lab(lab_numbers(g)), range)
 }
 
+// The level of the Separation p of block n: its name is looked at here, and nowhere else.
+fn ink_level(page: &[u8], n: u16, p: Separation) -> Level
+    ensures { λ r. ⌜ r ≡ inkLevel (now (page .entry)) n p ⌝ }
+{
+    if is_name(page, n as u32, b"None") {
+        return Level::Plain(Closing::NoMark, no_ranges());
+    }
+    if is_name(page, n as u32, b"All") {
+        return Level::Plain(Closing::EveryInk, no_ranges());
+    }
+    Level::Separation(p)
+}
+
 // The level of block n, whose body is given.
-fn level_of(n: u16, y: Body) -> Level
-    ensures { λ r. ⌜ r ≡ levelOf n y ⌝ }
+fn level_of(page: &[u8], n: u16, y: Body) -> Level
+    ensures { λ r. ⌜ r ≡ levelOf (now (page .entry)) n y ⌝ }
 {
     match y {
         Body::Free => nothing(),
@@ -110,7 +125,7 @@ fn level_of(n: u16, y: Body) -> Level
             base,
             hival,
         },
-        Body::Separation(p) => Level::Separation(p),
+        Body::Separation(p) => ink_level(page, n, p),
         Body::Palette => nothing(),
     }
 }
@@ -132,9 +147,26 @@ pub fn level_at(page: &[u8], n: u32) -> Level
     ensures { λ r. ⌜ r ≡ levelAt (now (page .entry)) n ⌝ }
 {
     if n < BLOCKS {
-        return level_of(n as u16, body_at(page, n));
+        return level_of(page, n as u16, body_at(page, n));
     }
     Level::Plain(device_closing(n), no_ranges())
+}
+
+// Whether a closing step is that of a Separation named None or All.
+fn is_named(c: Closing) -> bool
+    ensures { λ r. ⌜ r ≡ isNamed c ⌝ }
+{
+    match c {
+        Closing::Nothing => false,
+        Closing::Gray => false,
+        Closing::Rgb => false,
+        Closing::Cmyk => false,
+        Closing::CalGray(_) => false,
+        Closing::CalRgb(_) => false,
+        Closing::Lab(_) => false,
+        Closing::NoMark => true,
+        Closing::EveryInk => true,
+    }
 }
 
 // The level that an Indexed refers to: a Separation, or plain.
@@ -154,14 +186,19 @@ pub fn tinted_at(page: &[u8], n: u16) -> Level
     }
 }
 
-// The level that a Separation refers to, which is plain.
+// The level that a Separation refers to, which is a device space, CalGray, CalRGB or Lab.
 pub fn plain_at(page: &[u8], n: u16) -> Level
     ensures is { λ r. ⌜ spaceIn (now (page .entry)) r ≡ plainAt (now (page .entry)) n ⌝ }
     ensures falls { λ r. ⌜ rankIn r < 1 ⌝ }
 {
     let l = level_at(page, n as u32);
     match l {
-        Level::Plain(_, _) => l,
+        Level::Plain(c, _) => {
+            if is_named(c) {
+                return nothing();
+            }
+            l
+        }
         Level::Separation(_) => nothing(),
         Level::Indexed {
             block: _,

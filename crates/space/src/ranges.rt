@@ -3,7 +3,7 @@ ghost use mathlib.Core.Path.{_≡_};
 ghost use mathlib.Core.List.{List};
 ghost use Prim.Native.Nat.{ℕ, _≤_};
 ghost use Rattle.fixed.specs.Values.{places, listed};
-ghost use Rattle.space.specs.Spaces.{countOf, lowOf, highOf};
+ghost use Rattle.space.specs.Spaces.{countOf, limitCount, lowOf, highOf};
 ghost use Rattle.space.specs.Pages.{spaceAt};
 ghost use Rattle.space.specs.Levels.{plainIn, noRanges, spaceIn, isLab};
 use crate::nesting::Level;
@@ -25,6 +25,26 @@ pub fn plain_count(c: Closing) -> u32
         Closing::CalGray(_) => 1,
         Closing::CalRgb(_) => 3,
         Closing::Lab(_) => 3,
+        Closing::NoMark => 1,
+        Closing::EveryInk => 1,
+    }
+}
+
+// How many of a plain space's components are limited: all, but that of a Separation named None.
+pub fn limit_count(c: Closing) -> u32
+    ensures is { λ r. ⌜ r ≡ limitCount (plainIn c noRanges) ⌝ }
+    ensures small { λ r. ⌜ r ≤ places ⌝ }
+{
+    match c {
+        Closing::Nothing => 0,
+        Closing::Gray => 1,
+        Closing::Rgb => 3,
+        Closing::Cmyk => 4,
+        Closing::CalGray(_) => 1,
+        Closing::CalRgb(_) => 3,
+        Closing::Lab(_) => 3,
+        Closing::NoMark => 0,
+        Closing::EveryInk => 1,
     }
 }
 
@@ -64,6 +84,8 @@ fn is_lab(c: Closing) -> bool
         Closing::CalGray(_) => false,
         Closing::CalRgb(_) => false,
         Closing::Lab(_) => true,
+        Closing::NoMark => false,
+        Closing::EveryInk => false,
     }
 }
 

@@ -116,6 +116,13 @@ pub fn say_answer(a: Answer) {
         Answer::Xyz(p) => {
             say_xyz(p);
         }
+        Answer::NoMark => {
+            say(b"NoMark");
+        }
+        Answer::EveryInk(t) => {
+            say(b"EveryInk ");
+            say_float(t);
+        }
         Answer::Refused { number, block } => {
             say_refusal(number, block);
         }

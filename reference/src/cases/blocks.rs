@@ -251,6 +251,10 @@ fn names(maker: &mut Maker) {
     maker.both("name length 1", &named(1, b"G"));
     maker.both("name length 1 and a byte past it", &named(1, b"Go"));
     maker.both("name length 2 and one byte of it", &named(2, b"G"));
+    maker.both("the name None", &named(4, b"None"));
+    maker.both("the name All", &named(3, b"All"));
+    maker.both("the name None with length 3", &named(3, b"None"));
+    maker.both("the name All with length 4", &named(4, b"All"));
     maker.both("name length 127", &named(127, &[b'a'; 127]));
     maker.both("name length 127 and byte 135", &named(127, &[b'a'; 128]));
     maker.both(

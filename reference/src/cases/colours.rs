@@ -314,17 +314,6 @@ fn tints(maker: &mut Maker) {
         0,
         &[974_048],
     );
-    // It is always answered in the alternate space, under every name.
-    for name in ["All", "None", "Black"] {
-        let mut made = separation(0, DEVICE_CMYK, 1, [0; 4], [0, HALF, ONE, 0]);
-        made.bytes[..4].fill(0);
-        made.bytes[..name.len()].copy_from_slice(name.as_bytes());
-        if let Body::Separation { name_length, .. } = &mut made.body {
-            *name_length = name.len() as u8;
-        }
-        let label = format!("the Separation {name} is answered in its alternate");
-        maker.colour(&label, &page(&[made]), 0, &[ONE]);
-    }
 }
 
 /// A page with a free block, a CalGray, an Indexed and its palette, and a Lab.

@@ -55,13 +55,15 @@ pub fn float_text(v: f64) -> String {
     format!("{:016x}", v.to_bits())
 }
 
-/// An answer in words: the colour space it is given in and its floats, or the refusal.
+/// An answer in words: what it is in and its floats, of which `NoMark` has none, or the refusal.
 pub fn answer_text(answer: &Answer) -> String {
     let (name, floats): (&str, &[f64]) = match answer {
         Answer::Gray(v) => ("Gray", std::slice::from_ref(v)),
         Answer::Rgb(v) => ("RGB", v),
         Answer::Cmyk(v) => ("CMYK", v),
         Answer::Xyz(v) => ("XYZ", v),
+        Answer::NoMark => ("NoMark", &[]),
+        Answer::EveryInk(v) => ("EveryInk", std::slice::from_ref(v)),
         Answer::Refused { number, block } => return format!("refused {number} block {block}"),
     };
     floats.iter().fold(name.to_string(), |text, v| {

@@ -250,7 +250,7 @@ fn ill_formed(maker: &mut Maker) {
         ("the least input count", vec![i32::MIN, 4]),
         ("an input count alone", vec![1]),
         ("step 0", vec![1, 0]),
-        ("step 10", vec![1, 10]),
+        ("step 12", vec![1, 12]),
         ("step -4", vec![1, -4]),
         ("two closing steps", vec![1, 4, 4]),
         ("a word after the closing step", vec![1, 4, 0]),

@@ -45,6 +45,7 @@ fn the_cases_are_well_formed() {
     assert_eq!(ops(&colours::cases()), [31, 33]);
     assert_eq!(ops(&recipes::cases()), [31, 32, 33]);
     assert_eq!(ops(&runs::cases()), [33]);
+    assert_eq!(ops(&marks::cases()), [30, 31, 32, 33, 34]);
     assert_eq!(input_text(&cases).lines().count(), cases.len());
     assert_eq!(output_text(&cases).lines().count(), cases.len());
 }
@@ -109,8 +110,8 @@ fn every_refusal_is_reached() {
         (20, &[2, 3, 4, 5, 6, 10][..]),
         (21, &[3, 4, 5, 6]),
         (30, &[1, 2, 3, 4, 5, 6, 7]),
-        (31, &[1, 2, 7, 8, 9]),
-        (32, &[1, 2, 8, 10]),
+        (31, &[1, 2, 6, 7, 8, 9]),
+        (32, &[1, 2, 6, 7, 8, 10]),
         (33, &[9, 11]),
         (34, &[1, 2, 4]),
     ] {
@@ -278,6 +279,71 @@ fn group_replies_worked_by_hand() {
             "words 6 kept 1 1 0 0 1000000 4",
         ),
         (33, "no step at all is well-formed", "Gray c01c000000000000"),
+        (31, "Separation None, tint the least number", "NoMark"),
+        (31, "Separation All, tint 0.25", "EveryInk 3fd0000000000000"),
+        (31, "Separation All, tint 2", "EveryInk 3ff0000000000000"),
+        (
+            31,
+            "Separation All, tint -0.000001",
+            "EveryInk 0000000000000000",
+        ),
+        (
+            31,
+            "Separation none, tint 1",
+            "CMYK 0000000000000000 3fe0000000000000 3ff0000000000000 3fd0000000000000",
+        ),
+        (31, "Indexed over Separation None, index 3.5", "NoMark"),
+        (
+            31,
+            "Indexed over Separation All, index 1",
+            "EveryInk 3fc999999999999a",
+        ),
+        (31, "2 components for None", "refused 9 block 0"),
+        (30, "None with an alternate FF02", "refused 6 block 0"),
+        (
+            30,
+            "All with a second C0 entry over Gray",
+            "refused 7 block 0",
+        ),
+        (30, "None with no fault", "accepted"),
+        (
+            32,
+            "recipe of Separation None, 2 words, a word more",
+            "words 2 kept 1 10",
+        ),
+        (
+            32,
+            "recipe of Separation All, 6 words, just enough",
+            "words 6 kept 1 1 0 0 1000000 11",
+        ),
+        (
+            32,
+            "recipe of Indexed over Separation None, 9 words, just enough",
+            "words 9 kept 1 2 1 3 0 200000 709804 1000000 10",
+        ),
+        (
+            32,
+            "recipe of Separation None, 2 words, a word short",
+            "refused 10 block 0 kept",
+        ),
+        (
+            34,
+            "Separations None, All, none, Non, Nones, ALL and an Indexed over each, listed",
+            "blocks 18; 0 Separation 1 2; 1 Separation 1 6; 2 Separation 1 29; 3 Separation 1 29; \
+             4 Separation 1 29; 5 Separation 1 29; 6 Indexed 1 8; 8 Indexed 1 12; 10 Indexed 1 35; \
+             12 Indexed 1 35; 14 Indexed 1 35; 16 Indexed 1 35",
+        ),
+        (33, "3 components, no step, then 10", "NoMark"),
+        (
+            33,
+            "4 components, no step, then 11",
+            "EveryInk c01c000000000000",
+        ),
+        (
+            33,
+            "ill-formed, 10 with a word after it",
+            "refused 11 block 0",
+        ),
         (
             33,
             "a run of 1046 words, the most being 1045",
@@ -399,6 +465,9 @@ fn lines_have_the_agreed_form() {
     };
     assert_eq!(answer_text(&refused), "refused 7 block 63");
     assert_eq!(answer_text(&Answer::Gray(1.0)), "Gray 3ff0000000000000");
+    assert_eq!(answer_text(&Answer::NoMark), "NoMark");
+    let every = answer_text(&Answer::EveryInk(1.0));
+    assert_eq!(every, "EveryInk 3ff0000000000000");
     let odd = Case {
         op: 2,
         args: vec![1, 256],

@@ -133,6 +133,26 @@ fn planned_count(plan: &[Plan], reference: u16) -> usize {
     }
 }
 
+/// Names that are near None and All, by a letter or by its case.
+const NEAR_MISSES: [&[u8]; 12] = [
+    b"none", b"Non", b"Nones", b"NONE", b"None ", b"one", b"all", b"Al", b"Alls", b"ALL", b"All ",
+    b"ll",
+];
+
+/// A Separation's name: None, All, one near them, or any bytes.
+fn random_name(rng: &mut Rng) -> Vec<u8> {
+    match rng.below(6) {
+        0 => b"None".to_vec(),
+        1 => b"All".to_vec(),
+        2 => rng.pick(&NEAR_MISSES, b"none").to_vec(),
+        _ => {
+            let length = rng.between(1, 127);
+            let length = rng.pick(&[1, 3, 4, 127, length, length, length], 1);
+            (0..length).map(|_| rng.byte().max(1)).collect()
+        }
+    }
+}
+
 /// A record for this place of the plan, with random numbers that keep every rule.
 fn random_record(rng: &mut Rng, plan: &[Plan], number: u16) -> Record {
     let mut bytes = [0; BODY];
@@ -169,11 +189,9 @@ fn random_record(rng: &mut Rng, plan: &[Plan], number: u16) -> Record {
             let alternates = references(plan, None, false);
             let alternate = rng.pick(&alternates, DEVICE_GRAY);
             let m = planned_count(plan, alternate);
-            let length = rng.between(1, 127);
-            let name_length = rng.pick(&[1, 127, length, length], 1) as u8;
-            for place in bytes.iter_mut().take(usize::from(name_length)) {
-                *place = rng.byte().max(1);
-            }
+            let name = random_name(rng);
+            let name_length = name.len() as u8;
+            bytes[..name.len()].copy_from_slice(&name);
             let entry = |k: usize, rng: &mut Rng| if k < m { rng.number() } else { 0 };
             Body::Separation {
                 alternate,

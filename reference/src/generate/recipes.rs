@@ -33,12 +33,14 @@ pub fn random_recipe(rng: &mut Rng) -> Vec<i32> {
 
 /// The words of a random closing step.
 fn random_closing(rng: &mut Rng) -> Vec<i32> {
-    match rng.below(6) {
+    match rng.below(8) {
         0 => vec![4],
         1 => vec![5],
         2 => vec![6],
-        3 => vec![7, rng.number(), rng.number(), rng.gamma()],
-        4 => {
+        3 => vec![10],
+        4 => vec![11],
+        5 => vec![7, rng.number(), rng.number(), rng.gamma()],
+        6 => {
             let mut words = vec![8, rng.gamma(), rng.gamma(), rng.gamma()];
             words.extend((0..9).map(|_| rng.number()));
             words
@@ -79,7 +81,7 @@ pub fn damage_recipe(rng: &mut Rng, words: &mut Vec<i32>) {
     let at = rng.below(words.len());
     let word = match rng.below(4) {
         0 => rng.number(),
-        1 => rng.between(-1, 10),
+        1 => rng.between(-1, 12),
         2 => rng.near_gamma(),
         _ => rng.gamma() + rng.between(-1, 1),
     };

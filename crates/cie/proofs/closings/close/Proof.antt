@@ -3,7 +3,7 @@ use mathlib.Core.Path.{ap, _∙_}
 use mathlib.Core.List.{[], _∷_}
 use Rattle.fixed.specs.Numbers.{float}
 use Rattle.fixed.proofs.Signs.{signed-back}
-use Rattle.cie.specs.Answers.{answer, inGray, inRgb, inCmyk}
+use Rattle.cie.specs.Answers.{answer, inGray, inRgb, inCmyk, everyInk}
 use Rattle.cie.specs.Closings.{closed, inThree, calGrayOf, calRgbOf, calLabOf}
 use borrow.Author.Needs.{needs}
 use Rattle.cie.proofs.closings.close.Statement.{statement}
@@ -63,6 +63,15 @@ enum-known-k-3 c = search needs
 close-lab-requires : tie.Need-close-lab-requires
 close-lab-requires c κs = search needs
 
+enum-told-5 : tie.Need-enum-told-5
+enum-told-5 c = search needs
+
+enum-told-6 : tie.Need-enum-told-6
+enum-told-6 c = search needs
+
+float-of-requires-9 : tie.Need-float-of-requires-9
+float-of-requires-9 c κs = search needs
+
 returns : tie.Need-returns
 unfolding closed
 returns c = rw (c .enum-told .given .1)
@@ -110,6 +119,16 @@ returns-7 c =
     rw (c .before .before .k3 .given .1)
     (ap inThree (c .close-lab .ensures ∙ (λ i. calLabOf (c .before .before .k3 .given .0 .0) (signed-back (f .a) i) (signed-back (f .b) i) (signed-back (f .c) i))))
 
+returns-8 : tie.Need-returns-8
+unfolding closed
+returns-8 c = rw (c .enum-told5 .given .1)
+
+returns-9 : tie.Need-returns-9
+unfolding closed
+returns-9 c =
+    rw (c .before .enum-told6 .given .1)
+    (λ i. answer everyInk ((c .float-of9 .ensures ∙ ap float (signed-back (c .before .before .before .fits .a))) i ∷ []))
+
 pub close-spec : {M : Type 1} → statement M
 close-spec =
     tie.close
@@ -132,10 +151,15 @@ close-spec =
     close-rgb-requires
     enum-known-k-3
     close-lab-requires
+    enum-told-5
+    enum-told-6
+    float-of-requires-9
     returns
     returns-2
     returns-3
     returns-4
     returns-5
     returns-6
-    returns-7)
+    returns-7
+    returns-8
+    returns-9)

@@ -20,7 +20,7 @@ use Rattle.colour.proofs.values.tint.Reads as tint-reads
 use Rattle.space.proofs.plain_at.Reads as plain-at-reads
 use Rattle.space.proofs.tinted_at.Reads as tinted-at-reads
 use Rattle.space.proofs.count.Reads as count-reads
-use Rattle.space.proofs.plain_count.Reads as plain-count-reads
+use Rattle.space.proofs.limit_count.Reads as limit-count-reads
 use Rattle.space.proofs.plain_highs.Reads as plain-highs-reads
 use Rattle.space.proofs.plain_lows.Reads as plain-lows-reads
 use Rattle.colour.proofs.answers.+value_in.{statement}
@@ -38,13 +38,13 @@ value-in-below t =
 
 -- what each callee asks and tells, itself below t
 abbrev claims : ℕ → value-in-lts.Claims
-claims t = (plain-count-reads.Asked, plain-count-reads.Learnt, plain-lows-reads.Asked, plain-lows-reads.Learnt, plain-highs-reads.Asked, plain-highs-reads.Learnt, limit-all-reads.Asked, limit-all-reads.Learnt, close-reads.Asked, close-reads.Learnt, plain-at-reads.Asked, plain-at-reads.Learnt, count-reads.Asked, count-reads.Learnt, tint-reads.Asked, tint-reads.Learnt, value-in-below t, value-in.Post, tinted-at-reads.Asked, tinted-at-reads.Learnt, pick-row-reads.Asked, pick-row-reads.Learnt)
+claims t = (limit-count-reads.Asked, limit-count-reads.Learnt, plain-lows-reads.Asked, plain-lows-reads.Learnt, plain-highs-reads.Asked, plain-highs-reads.Learnt, limit-all-reads.Asked, limit-all-reads.Learnt, close-reads.Asked, close-reads.Learnt, plain-at-reads.Asked, plain-at-reads.Learnt, count-reads.Asked, count-reads.Learnt, tint-reads.Asked, tint-reads.Learnt, value-in-below t, value-in.Post, tinted-at-reads.Asked, tinted-at-reads.Learnt, pick-row-reads.Asked, pick-row-reads.Learnt)
 
 value-in-enum-known-l : (t : ℕ) → value-in-lts.Need-enum-known-l (claims t) (value-in-at t) value-in.Post
 value-in-enum-known-l t c = search needs
 
-value-in-plain-count-requires : (t : ℕ) → value-in-lts.Need-plain-count-requires (claims t) (value-in-at t) value-in.Post
-value-in-plain-count-requires t c κs = search needs
+value-in-limit-count-requires : (t : ℕ) → value-in-lts.Need-limit-count-requires (claims t) (value-in-at t) value-in.Post
+value-in-limit-count-requires t c κs = search needs
 
 value-in-plain-lows-requires : (t : ℕ) → value-in-lts.Need-plain-lows-requires (claims t) (value-in-at t) value-in.Post
 value-in-plain-lows-requires t c κs = search needs
@@ -112,16 +112,16 @@ value-in-returns t c =
     let after-limit-all = after-close-arg .before in
     let after-plain-highs = after-limit-all .before in
     let after-plain-lows = after-plain-highs .before in
-    let after-plain-count = after-plain-lows .before in
-    let after-l = after-plain-count .before .before in
+    let after-limit-count = after-plain-lows .before in
+    let after-l = after-limit-count .before .before in
     let k = after-l .l .given .0 .0 in
     let q = after-l .l .given .0 .1 .0 in
-    let m = after-plain-count .plain-count .ensures .0 ∙ whatever q k .0 in
+    let m = after-limit-count .limit-count .ensures .0 ∙ whatever q k .2 in
     let u = after-limit-all .limit-all in
     c .close .ensures ∙
     closes _ (u .result) (signed-within _ (after-close-arg .close-arg .given)) (signed-within _ (after-close-arg2 .close-arg2 .given)) (signed-within _ (after-close-arg3 .close-arg3 .given)) (signed-within _ (c .before .close-arg4 .given)) ∙
     value-plain _ _ k q (after-l .l .given .1) m
-    (u .ensures (plainIn k q) (record { count = m; low = after-plain-lows .plain-lows .ensures; high = after-plain-highs .plain-highs .ensures }))
+    (u .ensures (plainIn k q) (record { low = after-plain-lows .plain-lows .ensures; high = after-plain-highs .plain-highs .ensures }))
 
 value-in-returns-2 : (t : ℕ) → value-in-lts.Need-returns-2 (claims t) (value-in-at t) value-in.Post
 value-in-returns-2 t c = c .value-in .ensures ∙ value-separation _ _ _ (c .before .before .before .before .before .l2 .given .1) (c .before .before .before .plain-at .ensures .0) (c .before .before .count .ensures .0 _) (c .before .tint .ensures)
@@ -134,7 +134,7 @@ pub +value-in-spec : {M : Type 1} → statement M
     (value-in-at t)
     value-in.Post
     (value-in-enum-known-l t)
-    (value-in-plain-count-requires t)
+    (value-in-limit-count-requires t)
     (value-in-plain-lows-requires t)
     (value-in-plain-highs-requires t)
     (value-in-limit-all-requires t)

@@ -6,7 +6,7 @@ use Rattle.fixed.specs.Numbers.{limited}
 use Rattle.fixed.specs.Values.{value}
 use Rattle.fixed.proofs.Signs.{signed-within, signed-is}
 use Rattle.space.specs.Spaces.{Space}
-use Rattle.space.specs.Levels.{Ranged}
+use Rattle.space.specs.Levels.{Ends}
 use Rattle.space.proofs.Ends.{low-at, high-at}
 use Rattle.colour.specs.Colours.{limitedTo}
 use Rattle.colour.proofs.Steps.{limited-turn}
@@ -15,7 +15,7 @@ use Rattle.colour.proofs.values.limit_all.Statement.{statement}
 use Rattle.colour.proofs.values.limit_all.Tie as tie
 
 abbrev Inv-loop : tie.InvT-loop
-Inv-loop m lo hi u₀ k₀ u k = (k ≤ m) × ((s : Space) → Ranged s m lo hi → u ≡ limitedTo s k u₀)
+Inv-loop m lo hi u₀ k₀ u k = (k ≤ m) × ((s : Space) → Ends s lo hi → u ≡ limitedTo s k u₀)
 
 abbrev μ-loop : tie.MeasureT-loop
 μ-loop m lo hi u₀ k₀ u k = m - k

@@ -51,7 +51,7 @@ returns c =
     let a = entry .args in
     let s = spaceIn (a .page .now) (a .s) in
     let m = after-count .count in
-    c .fill-row .ensures s (record { count = m .ensures .0 _; low = after-lows .lows .ensures _; high = c .before .highs .ensures _ }) ∙
+    c .fill-row .ensures s (record { count = m .ensures .0 _; ends = record { low = after-lows .lows .ensures _; high = c .before .highs .ensures _ } }) ∙
     row-picked _ _ _ s (a .t5) (m .result) _ (toZ w32 (ofZ w32 (value (a .t5) 0))) (m .ensures .0 _) (signed-within (value (a .t5) 0) (after-round-index-arg .round-index-arg .given)) (after-round-index .round-index .ensures)
 
 pub pick-row-spec : {M : Type 1} → statement M

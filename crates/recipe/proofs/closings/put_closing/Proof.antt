@@ -62,6 +62,24 @@ put-lab-requires c κs =
     let pre = c .before .before .before .before .pre in
     let r = rw (k3 .given .1) at pre in omega arith
 
+enum-told-5 : tie.Need-enum-told-5
+enum-told-5 c = search needs
+
+mul-words-4 : tie.Need-mul-words-4
+mul-words-4 c = search needs
+
+slice-set-of-words-4 : tie.Need-slice-set-of-words-4
+slice-set-of-words-4 c = let r = rw (c .enum-told5 .given .1) at (c .before .before .pre) in omega arith
+
+enum-told-6 : tie.Need-enum-told-6
+enum-told-6 c = search needs
+
+mul-words-5 : tie.Need-mul-words-5
+mul-words-5 c = search needs
+
+slice-set-of-words-5 : tie.Need-slice-set-of-words-5
+slice-set-of-words-5 c = let r = rw (c .enum-told6 .given .1) at (c .before .before .pre) in omega arith
+
 returns : tie.Need-returns
 returns c = rw (c .enum-told .given .1)
 
@@ -110,6 +128,18 @@ returns-7 c =
     let k3 = c .before .before .before .before .k3 in
     put-lab .ensures ∙ rw (k3 .given .1)
 
+same-length-7 : tie.Need-same-length-7
+same-length-7 c = search needs
+
+returns-8 : tie.Need-returns-8
+returns-8 c = rw (c .enum-told5 .given .1)
+
+same-length-8 : tie.Need-same-length-8
+same-length-8 c = search needs
+
+returns-9 : tie.Need-returns-9
+returns-9 c = rw (c .enum-told6 .given .1)
+
 pub put-closing-spec : {M : Type 1} → statement M
 put-closing-spec =
     tie.close
@@ -130,6 +160,12 @@ put-closing-spec =
     put-rgb-requires
     enum-known-k-3
     put-lab-requires
+    enum-told-5
+    mul-words-4
+    slice-set-of-words-4
+    enum-told-6
+    mul-words-5
+    slice-set-of-words-5
     returns
     same-length
     returns-2
@@ -142,4 +178,8 @@ put-closing-spec =
     same-length-5
     returns-6
     same-length-6
-    returns-7)
+    returns-7
+    same-length-7
+    returns-8
+    same-length-8
+    returns-9)

@@ -7,7 +7,7 @@ use lib.Seq.{sets}
 use Rattle.fixed.specs.Values.{value}
 use Rattle.fixed.proofs.Signs.{signed-within, signed-is}
 use Rattle.space.specs.Spaces.{Space}
-use Rattle.space.specs.Levels.{Ranged}
+use Rattle.space.specs.Levels.{Ends}
 use Rattle.space.proofs.Ends.{low-at, high-at}
 use Rattle.recipe.specs.Recipes.{limitsOf}
 use Rattle.recipe.proofs.Words.{limits-turn}
@@ -16,7 +16,7 @@ use Rattle.recipe.proofs.parts.put_limits.Statement.{statement}
 use Rattle.recipe.proofs.parts.put_limits.Tie as tie
 
 abbrev Inv-loop : tie.InvT-loop
-Inv-loop m words₀ at lo hi k₀ words k = (k ≤ m) × (length words ≡ length words₀) × ((s : Space) → Ranged s m lo hi → words ≡ sets words₀ at (limitsOf s k))
+Inv-loop m words₀ at lo hi k₀ words k = (k ≤ m) × (length words ≡ length words₀) × ((s : Space) → Ends s lo hi → words ≡ sets words₀ at (limitsOf s k))
 
 abbrev μ-loop : tie.MeasureT-loop
 μ-loop m words₀ at lo hi k₀ words k = m - k

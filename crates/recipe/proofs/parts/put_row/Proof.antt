@@ -100,7 +100,7 @@ returns-2 c =
     let after-count = after-word-of .before .before in
     let entry = after-count .before .before in
     let s = spaceIn (entry .args .page .now) (entry .args .s) in
-    row-set (entry .args .page .now) (entry .args .n) (entry .args .hival) (after-count .count .result) (spaceIn (entry .args .page .now) (entry .args .s)) (after-count .count .ensures .0 _) _ _ _ _ _ (signed-is _ (after-word-of .word-of .ok) (after-word-of .word-of .ensures)) (signed-is _ (after-word-of2 .word-of2 .ok) (after-word-of2 .word-of2 .ensures)) (after-put3 .put3 .ensures) _ (c .before .put-table .ensures s (record { count = after-count .count .ensures .0 _; low = after-lows .lows .ensures _; high = after-highs .highs .ensures _ }))
+    row-set (entry .args .page .now) (entry .args .n) (entry .args .hival) (after-count .count .result) (spaceIn (entry .args .page .now) (entry .args .s)) (after-count .count .ensures .0 _) _ _ _ _ _ (signed-is _ (after-word-of .word-of .ok) (after-word-of .word-of .ensures)) (signed-is _ (after-word-of2 .word-of2 .ok) (after-word-of2 .word-of2 .ensures)) (after-put3 .put3 .ensures) _ (c .before .put-table .ensures s (record { count = after-count .count .ensures .0 _; ends = record { low = after-lows .lows .ensures _; high = after-highs .highs .ensures _ } }))
 
 pub put-row-spec : {M : Type 1} → statement M
 put-row-spec =

@@ -39,6 +39,12 @@ lab-words-requires c κs = search needs
 close-read-requires-4 : tie.Need-close-read-requires-4
 close-read-requires-4 c κs = search needs
 
+close-read-requires-5 : tie.Need-close-read-requires-5
+close-read-requires-5 c κs = search needs
+
+close-read-requires-6 : tie.Need-close-read-requires-6
+close-read-requires-6 c κs = search needs
+
 returns : tie.Need-returns
 unfolding stepBy
 returns c = c .limit-read .ensures ∙ simp (← (c .before .before .small-at .ensures), c .before .match .keys1)
@@ -77,9 +83,17 @@ returns-9 c = c .close-read4 .ensures ∙ simp (← (c .before .before .before .
 
 returns-10 : tie.Need-returns-10
 unfolding stepBy
-returns-10 c =
+returns-10 c = c .close-read5 .ensures ∙ simp (← (c .before .before .small-at .ensures), c .before .match .keys10)
+
+returns-11 : tie.Need-returns-11
+unfolding stepBy
+returns-11 c = c .close-read6 .ensures ∙ simp (← (c .before .before .small-at .ensures), c .before .match .keys11)
+
+returns-12 : tie.Need-returns-12
+unfolding stepBy
+returns-12 c =
     let r = c .match .rest in
-    simp (← (c .before .small-at .ensures), ne-eqb _ _ (r .1), ne-eqb _ _ (r .0 .1), ne-eqb _ _ (r .0 .0 .1), ne-eqb _ _ (r .0 .0 .0 .1), ne-eqb _ _ (r .0 .0 .0 .0 .1), ne-eqb _ _ (r .0 .0 .0 .0 .0 .1), ne-eqb _ _ (r .0 .0 .0 .0 .0 .0 .1), ne-eqb _ _ (r .0 .0 .0 .0 .0 .0 .0 .1), ne-eqb _ _ (r .0 .0 .0 .0 .0 .0 .0 .0 .1))
+    simp (← (c .before .small-at .ensures), ne-eqb _ _ (r .1), ne-eqb _ _ (r .0 .1), ne-eqb _ _ (r .0 .0 .1), ne-eqb _ _ (r .0 .0 .0 .1), ne-eqb _ _ (r .0 .0 .0 .0 .1), ne-eqb _ _ (r .0 .0 .0 .0 .0 .1), ne-eqb _ _ (r .0 .0 .0 .0 .0 .0 .1), ne-eqb _ _ (r .0 .0 .0 .0 .0 .0 .0 .1), ne-eqb _ _ (r .0 .0 .0 .0 .0 .0 .0 .0 .1), ne-eqb _ _ (r .0 .0 .0 .0 .0 .0 .0 .0 .0 .1), ne-eqb _ _ (r .0 .0 .0 .0 .0 .0 .0 .0 .0 .0 .1))
 
 pub step-of-spec : {M : Type 1} → statement M
 step-of-spec =
@@ -96,6 +110,8 @@ step-of-spec =
     rgb-read-requires
     lab-words-requires
     close-read-requires-4
+    close-read-requires-5
+    close-read-requires-6
     returns
     returns-2
     returns-3
@@ -105,4 +121,6 @@ step-of-spec =
     returns-7
     returns-8
     returns-9
-    returns-10)
+    returns-10
+    returns-11
+    returns-12)

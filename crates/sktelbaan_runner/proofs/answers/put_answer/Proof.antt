@@ -40,11 +40,26 @@ put-three-requires-2 c κs = search needs
 halves-requires-4 : tie.Need-halves-requires-4
 halves-requires-4 c κs = search needs
 
-enum-known-a-5 : tie.Need-enum-known-a-5
-enum-known-a-5 c = search needs
+enum-told : tie.Need-enum-told
+enum-told c = search needs
 
 halves-requires-5 : tie.Need-halves-requires-5
 halves-requires-5 c κs = search needs
+
+enum-known-a-5 : tie.Need-enum-known-a-5
+enum-known-a-5 c = search needs
+
+element-write-floats-2 : tie.Need-element-write-floats-2
+element-write-floats-2 c = search needs
+
+halves-requires-6 : tie.Need-halves-requires-6
+halves-requires-6 c κs = search needs
+
+enum-known-a-6 : tie.Need-enum-known-a-6
+enum-known-a-6 c = search needs
+
+halves-requires-7 : tie.Need-halves-requires-7
+halves-requires-7 c κs = search needs
 
 returns : tie.Need-returns
 returns c = rw (c .before .before .a .given .1) (c .halves .ensures, refl)
@@ -59,7 +74,13 @@ returns-4 : tie.Need-returns-4
 returns-4 c = rw (c .before .before .before .before .a4 .given .1) (c .halves4 .ensures, c .before .put-three2 .ensures)
 
 returns-5 : tie.Need-returns-5
-returns-5 c = rw (c .before .before .a5 .given .1) (c .halves5 .ensures, refl)
+returns-5 c = rw (c .before .enum-told .given .1) (c .halves5 .ensures, refl)
+
+returns-6 : tie.Need-returns-6
+returns-6 c = rw (c .before .before .a5 .given .1) (c .halves6 .ensures, refl)
+
+returns-7 : tie.Need-returns-7
+returns-7 c = rw (c .before .before .a6 .given .1) (c .halves7 .ensures, refl)
 
 pub put-answer-spec : {M : Type 1} → statement M
 put-answer-spec =
@@ -77,10 +98,17 @@ put-answer-spec =
     enum-known-a-4
     put-three-requires-2
     halves-requires-4
-    enum-known-a-5
+    enum-told
     halves-requires-5
+    enum-known-a-5
+    element-write-floats-2
+    halves-requires-6
+    enum-known-a-6
+    halves-requires-7
     returns
     returns-2
     returns-3
     returns-4
-    returns-5)
+    returns-5
+    returns-6
+    returns-7)

@@ -19,7 +19,7 @@ level-of-requires c κs = search needs
 
 returns : tie.Need-returns
 unfolding levelAt
-returns c = lt-yes _ _ _ _ _ refl (c .before .before .if1 .taken) (c .level-of .ensures ∙ ap (levelOf _) (c .before .body-at .ensures))
+returns c = lt-yes _ _ _ _ _ refl (c .before .before .if1 .taken) (c .level-of .ensures ∙ ap (levelOf _ _) (c .before .body-at .ensures))
 
 device-closing-requires : tie.Need-device-closing-requires
 device-closing-requires c κs = search needs

@@ -42,6 +42,9 @@ enum-known-y-4 c = search needs
 enum-known-y-5 : tie.Need-enum-known-y-5
 enum-known-y-5 c = search needs
 
+ink-level-requires : tie.Need-ink-level-requires
+ink-level-requires c κs = search needs
+
 enum-told-2 : tie.Need-enum-told-2
 enum-told-2 c = search needs
 
@@ -70,7 +73,7 @@ returns-5 c = rw (c .before .y4 .given .1)
 
 returns-6 : tie.Need-returns-6
 unfolding levelOf
-returns-6 c = rw (c .before .y5 .given .1)
+returns-6 c = rw (c .before .before .y5 .given .1) (c .ink-level .ensures)
 
 returns-7 : tie.Need-returns-7
 unfolding levelOf
@@ -92,6 +95,7 @@ level-of-spec =
     lab-level-requires
     enum-known-y-4
     enum-known-y-5
+    ink-level-requires
     enum-told-2
     nothing-requires-2
     returns
