@@ -38,7 +38,8 @@ enum { SKTELBAAN_DEVICE_GRAY = 0xFF01, SKTELBAAN_DEVICE_RGB = 0xFF03, SKTELBAAN_
 uint64_t sktelbaan_validate(const uint8_t *page, size_t page_len) SKTELBAAN_NEVER_NULL;
 
 /* Evaluates a colour of the space at a number of a page, a block's number or a device code. Refuses with 1 to 9. Gives what the answer is in, and puts its
- * floats, as many as sktelbaan_floats says, in order, from the first of `floats` on; those beyond stay as they were. */
+ * floats, as many as sktelbaan_floats says, in order, from the first of `floats` on; those beyond stay as they were. sktelbaan_moved tells whether the colour
+ * was pulled in. */
 uint64_t sktelbaan_evaluate(const uint8_t *page, size_t page_len, uint32_t number, const int32_t *components, size_t count, double floats[4]) SKTELBAAN_NEVER_NULL;
 
 /* Writes the recipe of the space at a number of a page. Refuses with 1 to 8, then 10; SKTELBAAN_MOST_WORDS words are always enough. Gives how many words the

@@ -8,11 +8,11 @@
  *     if (sktelbaan_refusal(reply) != 0)
  *         printf("refused: %s, block %u\n", sktelbaan_refusal_text(sktelbaan_refusal(reply)), sktelbaan_block(reply));
  *     else
- *         use(sktelbaan_value(reply));
+ *         use(sktelbaan_value(reply), sktelbaan_moved(reply));
  *
  * A refusal means that something is wrong with what you passed: the number says what, the block says where on the page (0 where it is about no block),
  * and everything that you lent is as it was before the call. Otherwise it worked, and the value is what the function gives: with each function stands
- * what that is.
+ * what that is. Where a colour was answered the reply also says whether the colour was pulled in: see sktelbaan_moved.
  *
  * What you may pass: anything. A page, a record, a recipe or a colour may be broken in any way; it gets a reply. No function keeps anything, allocates
  * anything or waits for anything, so any thread may call any of them at any time.
@@ -45,7 +45,12 @@ static inline uint32_t sktelbaan_refusal(uint64_t reply) { return (uint32_t)repl
 static inline uint32_t sktelbaan_block(uint64_t reply) { return sktelbaan_refusal(reply) != 0 ? (uint32_t)(reply >> 32) : 0; }
 
 /* What the function gives; 0 where something is refused. */
-static inline uint32_t sktelbaan_value(uint64_t reply) { return sktelbaan_refusal(reply) == 0 ? (uint32_t)(reply >> 32) : 0; }
+static inline uint32_t sktelbaan_value(uint64_t reply) { return sktelbaan_refusal(reply) == 0 ? (uint32_t)(reply >> 32) & 0x7FFFFFFF : 0; }
+
+/* Whether a colour was pulled in: 1 where some component, tint or index lay outside its range and was taken to the nearest end, in the space asked for or in
+ * one inside it, and 0 where none was. Rounding an index is no move by itself: with hival 3 index 3.4 gives 0 and 3.5 gives 1. It is the reply's top bit,
+ * bit 63, which the replies of sktelbaan_run and sktelbaan_evaluate alone ever have; 0 where something is refused. */
+static inline int sktelbaan_moved(uint64_t reply) { return sktelbaan_refusal(reply) == 0 && reply >> 63 != 0 ? 1 : 0; }
 
 /* The refusals. */
 enum sktelbaan_refusals {
@@ -137,7 +142,8 @@ enum { SKTELBAAN_MOST_WORDS = 1045 };
 #endif
 
 /* Runs a recipe, just its words, on the components of a colour. Refuses with 11, then 9. Gives what the answer is in, and puts its floats, as many as
- * sktelbaan_floats says, in order, from the first of `floats` on; those beyond stay as they were. */
+ * sktelbaan_floats says, in order, from the first of `floats` on; those beyond stay as they were. sktelbaan_moved tells whether a step of the recipe pulled
+ * the colour in. */
 uint64_t sktelbaan_run(const int32_t *words, size_t words_len, const int32_t *components, size_t count, double floats[4]) SKTELBAAN_NEVER_NULL;
 
 /* How NULL may be passed where a length is 0. In front of the library stands an inline function, which then lends an element of its own, and from here on

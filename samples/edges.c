@@ -1,5 +1,5 @@
-/* The edges of the C interface, checked: lists of none, the parts of a reply, answers of each kind, refusals in words, sizes, a record of each kind. It is
- * compiled as C and as C++, with the compiler's checks of addresses and of undefined behaviour, and prints what is not as it should be. */
+/* The edges of the C interface, checked: lists of none, the parts of a reply, answers of each kind, colours pulled in, refusals in words, sizes, a record of
+ * each kind. It is compiled as C and as C++, with the compiler's checks of addresses and of undefined behaviour, and prints what is not as it should be. */
 #include <stdio.h>
 #include <string.h>
 
@@ -103,6 +103,37 @@ static void answers(void) {
     expect("the floats of no answer", sktelbaan_floats(0) == 0 && sktelbaan_floats(SKTELBAAN_EVERY_INK + 1) == 0 && sktelbaan_floats(UINT32_MAX) == 0);
 }
 
+/* A colour that is pulled in says so, beside what its answer is in; a refusal and a count of words do not. */
+static void pulled_in(void) {
+    static const uint8_t page[SKTELBAAN_BLOCK_BYTES] = {0};
+    static const int32_t gray[6] = {1, 1, 0, 0, 1000000, 4};
+    static const int32_t row[7] = {1, 2, 1, 1, 0, 1000000, 10};
+    static const struct {
+        int32_t component;
+        int limit, index;
+    } rows[] = {
+        {INT32_MIN, 1, 1}, {-500001, 1, 1}, {-500000, 1, 0}, {-1, 1, 0},      {0, 0, 0},          {1000000, 0, 0},
+        {1000001, 1, 0},   {1400000, 1, 0}, {1499999, 1, 0}, {1500000, 1, 1}, {INT32_MAX, 1, 1},
+    };
+    double floats[4] = {0};
+    int32_t words[SKTELBAAN_MOST_WORDS];
+    for (size_t i = 0; i < sizeof rows / sizeof rows[0]; i++) {
+        const int32_t *colour = &rows[i].component;
+        uint64_t reply = sktelbaan_run(gray, 6, colour, 1, floats);
+        expect("a limit that moves or not", sktelbaan_value(reply) == SKTELBAAN_GRAY && sktelbaan_moved(reply) == rows[i].limit);
+        reply = sktelbaan_evaluate(page, sizeof page, SKTELBAAN_DEVICE_GRAY, colour, 1, floats);
+        expect("a colour that moves or not", sktelbaan_value(reply) == SKTELBAAN_GRAY && sktelbaan_moved(reply) == rows[i].limit);
+        expect("a reply's bits", reply == ((uint64_t)rows[i].limit << 63 | (uint64_t)SKTELBAAN_GRAY << 32));
+        reply = sktelbaan_run(row, 7, colour, 1, floats);
+        expect("an index that moves or not", sktelbaan_value(reply) == SKTELBAAN_NO_MARK && sktelbaan_moved(reply) == rows[i].index);
+        reply = sktelbaan_run(gray, 5, colour, 1, floats);
+        expect("a refusal moves nothing", sktelbaan_refusal(reply) == SKTELBAAN_REFUSED_RECIPE && sktelbaan_moved(reply) == 0);
+    }
+    uint64_t reply = sktelbaan_write_recipe(page, sizeof page, SKTELBAAN_DEVICE_CMYK, words, SKTELBAAN_MOST_WORDS);
+    expect("a count of words moves nothing", sktelbaan_value(reply) == 18 && sktelbaan_moved(reply) == 0);
+    expect("the top bit of a refusal", sktelbaan_moved((uint64_t)1 << 63 | 9) == 0);
+}
+
 /* Every refusal has a text of its own, and no other number has one. */
 static void texts(void) {
     const char *other = sktelbaan_refusal_text(0);
@@ -174,6 +205,7 @@ int main(void) {
     by_address();
     replies();
     answers();
+    pulled_in();
     texts();
     sizes();
     records();

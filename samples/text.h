@@ -27,7 +27,7 @@ static inline size_t read_components(char **from, int count, int32_t *components
     return (size_t)count;
 }
 
-/* Prints a reply with its floats. A refusal's text goes to standard error. */
+/* Prints a reply with its floats, and whether the colour was pulled in. A refusal's text goes to standard error. */
 static inline void print_reply(const char *what, uint64_t reply, const double floats[4]) {
     static const char *const names[] = {"", "Gray", "RGB", "CMYK", "XYZ", "NoMark", "EveryInk"};
     uint32_t refusal = sktelbaan_refusal(reply);
@@ -40,7 +40,7 @@ static inline void print_reply(const char *what, uint64_t reply, const double fl
     printf("%s %s", what, names[in]);
     for (uint32_t i = 0; i < sktelbaan_floats(in); i++)
         printf(" %.17g", floats[i]);
-    printf("\n");
+    printf("%s\n", sktelbaan_moved(reply) ? " moved" : "");
 }
 
 #endif

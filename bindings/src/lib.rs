@@ -12,7 +12,8 @@
 //! sktelbaan::validate(page)?;
 //!
 //! let white = sktelbaan::evaluate(page, 0, &[1_000_000])?;
-//! assert_eq!(white, sktelbaan::Answer::Xyz([0.9505, 1.0, 1.089]));
+//! assert_eq!(white.answer, sktelbaan::Answer::Xyz([0.9505, 1.0, 1.089]));
+//! assert!(!white.moved);
 //!
 //! // Its recipe answers the same colours, with no page.
 //! let recipe = sktelbaan::recipe(page, 0)?;
@@ -56,8 +57,8 @@ pub const LONGEST: usize = 1045;
 /// ```
 /// use sktelbaan::{evaluate, Answer};
 /// let page = include_bytes!("../../samples/marks.page");
-/// assert_eq!(evaluate(page, 0, &[250_000])?, Answer::NoMark);
-/// assert_eq!(evaluate(page, 1, &[250_000])?, Answer::EveryInk(0.25));
+/// assert_eq!(evaluate(page, 0, &[250_000])?.answer, Answer::NoMark);
+/// assert_eq!(evaluate(page, 1, &[250_000])?.answer, Answer::EveryInk(0.25));
 /// # Ok::<(), sktelbaan::Refusal>(())
 /// ```
 #[derive(Clone, Copy, Debug)]
@@ -120,6 +121,38 @@ impl fmt::Display for Answer {
             Answer::EveryInk(_) => "EveryInk",
         })?;
         self.floats().iter().try_for_each(|v| write!(f, " {v}"))
+    }
+}
+
+/// What comes back for a colour: its answer, and whether the colour was pulled in.
+///
+/// ```
+/// use sktelbaan::{evaluate, Answer, Colour};
+/// // An Indexed space with hival 7. Index 7.4 is rounded to 7, which moves nothing; 7.5 is rounded to 8.
+/// let page = include_bytes!("../../samples/indexed.page");
+/// let white = Answer::Rgb([1.0; 3]);
+/// assert_eq!(evaluate(page, 0, &[7_400_000])?, Colour { answer: white, moved: false });
+/// assert_eq!(evaluate(page, 0, &[7_500_000])?, Colour { answer: white, moved: true });
+/// # Ok::<(), sktelbaan::Refusal>(())
+/// ```
+#[derive(Clone, Copy, Debug, PartialEq, Eq)]
+pub struct Colour {
+    /// The answer.
+    pub answer: Answer,
+    /// Whether some component, tint or index lay outside its range and was taken to the nearest end,
+    /// in the space asked for or in one inside it.
+    pub moved: bool,
+}
+
+impl fmt::Display for Colour {
+    /// The answer, then `moved` where the colour was pulled in, as `Gray 1 moved`.
+    fn fmt(&self, f: &mut fmt::Formatter<'_>) -> fmt::Result {
+        write!(
+            f,
+            "{}{}",
+            self.answer,
+            if self.moved { " moved" } else { "" }
+        )
     }
 }
 
@@ -186,11 +219,15 @@ fn given(reply: u64) -> Result<u32, Refusal> {
     }
 }
 
-/// The answer that a reply and its floats are, or the refusal.
+/// The bit of what an answer is in that says that the colour was pulled in: the reply's top bit.
+const MOVED: u32 = 1 << 31;
+
+/// The colour that a reply and its floats are, or the refusal.
 #[inline]
-fn answer(reply: u64, floats: [f64; 4]) -> Result<Answer, Refusal> {
+fn colour(reply: u64, floats: [f64; 4]) -> Result<Colour, Refusal> {
     let [a, b, c, _] = floats;
-    Ok(match given(reply)? {
+    let given = given(reply)?;
+    let answer = match given & !MOVED {
         1 => Answer::Gray(a),
         2 => Answer::Rgb([a, b, c]),
         3 => Answer::Cmyk(floats),
@@ -198,7 +235,9 @@ fn answer(reply: u64, floats: [f64; 4]) -> Result<Answer, Refusal> {
         5 => Answer::NoMark,
         6 => Answer::EveryInk(a),
         other => unreachable!("an answer is one of six, not {other}"),
-    })
+    };
+    let moved = given & MOVED != 0;
+    Ok(Colour { answer, moved })
 }
 
 /// Validates a page: 512 bytes for each of its 1 to 64 blocks. Refusals 1 to 7.
@@ -224,15 +263,16 @@ pub fn validate(page: &[u8]) -> Result<(), Refusal> {
 /// ```
 /// use sktelbaan::{evaluate, Answer, DEVICE_RGB};
 /// // Components are limited to their range: 2.0 to 1.0 here.
-/// let answer = evaluate(&[0; 512], DEVICE_RGB, &[250_000, 2_000_000, -1])?;
-/// assert_eq!(answer, Answer::Rgb([0.25, 1.0, 0.0]));
+/// let colour = evaluate(&[0; 512], DEVICE_RGB, &[250_000, 2_000_000, -1])?;
+/// assert_eq!(colour.answer, Answer::Rgb([0.25, 1.0, 0.0]));
+/// assert!(colour.moved);
 /// // No space is at block 0 of this page, and RGB has three components.
 /// assert_eq!(evaluate(&[0; 512], 0, &[0]).unwrap_err().number, 8);
 /// assert_eq!(evaluate(&[0; 512], DEVICE_RGB, &[0]).unwrap_err().number, 9);
 /// # Ok::<(), sktelbaan::Refusal>(())
 /// ```
 #[inline]
-pub fn evaluate(page: &[u8], number: u32, components: &[i32]) -> Result<Answer, Refusal> {
+pub fn evaluate(page: &[u8], number: u32, components: &[i32]) -> Result<Colour, Refusal> {
     let mut floats = [0.0; 4];
     // SAFETY: page and components are good for reading as many bytes and numbers as are named, and
     // the four floats, which nothing else refers to, for writing.
@@ -246,7 +286,7 @@ pub fn evaluate(page: &[u8], number: u32, components: &[i32]) -> Result<Answer, 
             floats.as_mut_ptr(),
         )
     };
-    answer(reply, floats)
+    colour(reply, floats)
 }
 
 /// Writes the recipe of the space at a number of a page into the first of the lent words, and gives
@@ -293,15 +333,19 @@ pub fn recipe(page: &[u8], number: u32) -> Result<Vec<i32>, Refusal> {
 /// Runs a recipe, just its words, on a colour's components. Refusals 11 and 9.
 ///
 /// ```
-/// use sktelbaan::{run, Answer};
+/// use sktelbaan::{run, Answer, Colour};
 /// // One component, which nothing limits, answered as DeviceGray.
-/// assert_eq!(run(&[1, 4], &[1_500_000])?, Answer::Gray(1.5));
+/// let (answer, moved) = (Answer::Gray(1.5), false);
+/// assert_eq!(run(&[1, 4], &[1_500_000])?, Colour { answer, moved });
+/// // The same, limited to 0..1 first.
+/// let (answer, moved) = (Answer::Gray(1.0), true);
+/// assert_eq!(run(&[1, 1, 0, 0, 1_000_000, 4], &[1_500_000])?, Colour { answer, moved });
 /// assert_eq!(run(&[1, 4], &[]).unwrap_err().number, 9);
 /// assert_eq!(run(&[1], &[0]).unwrap_err().number, 11);
 /// # Ok::<(), sktelbaan::Refusal>(())
 /// ```
 #[inline]
-pub fn run(words: &[i32], components: &[i32]) -> Result<Answer, Refusal> {
+pub fn run(words: &[i32], components: &[i32]) -> Result<Colour, Refusal> {
     let mut floats = [0.0; 4];
     // SAFETY: words and components are good for reading as many as are named, and the four floats,
     // which nothing else refers to, for writing.
@@ -314,7 +358,7 @@ pub fn run(words: &[i32], components: &[i32]) -> Result<Answer, Refusal> {
             floats.as_mut_ptr(),
         )
     };
-    answer(reply, floats)
+    colour(reply, floats)
 }
 
 #[cfg(test)]
@@ -367,6 +411,11 @@ mod tests {
         assert_eq!((reply, floats), (4 << 32, [0.0, 0.5, 0.0, d]));
         assert_eq!(run_into(&[2, 10], &[half; 2]), (5 << 32, MARKS));
         assert_eq!(run_into(&[1, 11], &[half]), (6 << 32, [0.5, b, c, d]));
+        // The top bit where something was moved.
+        let (reply, floats) = run_into(&[1, 1, 0, 0, 0, 4], &[half]);
+        assert_eq!((reply, floats), (1 << 63 | 1 << 32, [0.0, b, c, d]));
+        let (reply, floats) = run_into(&[1, 1, 0, 0, 0, 10], &[half]);
+        assert_eq!((reply, floats), (1 << 63 | 5 << 32, MARKS));
         assert_eq!(run_into(&[1, 4], &[]), (9, MARKS));
         assert_eq!(run_into(&[1, 4, 4], &[half]), (11, MARKS));
         assert_eq!(run_into(&[], &[]), (11, MARKS));
@@ -387,6 +436,13 @@ mod tests {
             let components = vec![half; count];
             assert_eq!(evaluate_into(&page, number, &components), expected);
         }
+        let moved = 1 << 63 | 1 << 32;
+        let beyond = [1_000_001];
+        assert_eq!(
+            evaluate_into(&page, DEVICE_GRAY, &beyond),
+            (moved, [1.0, b, c, d])
+        );
+        assert_eq!(evaluate_into(&[], DEVICE_GRAY, &beyond), (1, MARKS));
         assert_eq!(evaluate_into(&[], DEVICE_GRAY, &[half]), (1, MARKS));
         let mut second = [0; 1024];
         second[1023] = 1;
@@ -420,6 +476,10 @@ mod tests {
         assert_eq!(white.to_string(), "XYZ 0.9505 1 1.089");
         assert_eq!(Answer::Gray(-0.0).to_string(), "Gray -0");
         assert_eq!(Answer::NoMark.to_string(), "NoMark");
+        let answer = Answer::Gray(1.0);
+        for (moved, text) in [(false, "Gray 1"), (true, "Gray 1 moved")] {
+            assert_eq!(Colour { answer, moved }.to_string(), text);
+        }
         assert_eq!(Answer::EveryInk(0.25).to_string(), "EveryInk 0.25");
         assert_eq!(Answer::NoMark, Answer::NoMark);
         assert_ne!(Answer::EveryInk(0.5), Answer::Gray(0.5));

@@ -68,7 +68,7 @@ pub fn evaluate(library: &Library, rng: &mut Rng, colours: u64) -> Result<Tally,
                 let (words, bytes) = (hex_of_words(&colour), hex_of(page));
                 format!("number {number:x} components {words} page {bytes}")
             })?;
-            tally.count(&reply);
+            tally.count_colour(&reply);
         }
     }
     Ok(tally)
@@ -159,7 +159,7 @@ pub fn recipes(library: &Library, rng: &mut Rng, colours: u64) -> Result<Recipes
             same("evaluate", &on_page, &expected, input)?;
             let reply = (library.run)(&words, &colour);
             same("a recipe's run against evaluate", &reply, &on_page, input)?;
-            found.run.count(&reply);
+            found.run.count_colour(&reply);
         }
     }
     Ok(found)
@@ -182,7 +182,7 @@ pub fn run(library: &Library, rng: &mut Rng, lists: u64) -> Result<Tally, Differ
                     hex_of_words(words)
                 )
             })?;
-            tally.count(&reply);
+            tally.count_colour(&reply);
             Ok(())
         };
         one(&words)?;

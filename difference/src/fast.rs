@@ -19,15 +19,10 @@ pub use validate::{sums, validate};
 
 use reference::block::Body;
 use reference::cie::Answer;
-use reference::colour::answer;
+use reference::colour::{answer, Colour, Reply};
 use reference::gamma::tenths;
 use reference::numbers::{limit, ONE};
 use reference::page::{block_at, components};
-
-/// A refusal that is about no block.
-fn refused(number: u32) -> Answer {
-    Answer::Refused { number, block: 0 }
-}
 
 /// The four values that a colour starts with.
 fn values_of(colour: &[i32]) -> [i32; 4] {
@@ -39,28 +34,32 @@ fn values_of(colour: &[i32]) -> [i32; 4] {
 }
 
 /// Answers a colour on a page.
-pub fn evaluate(page: &[u8], number: u32, colour: &[i32]) -> Answer {
-    if let Err((number, block)) = validate(page) {
-        return Answer::Refused { number, block };
-    }
+pub fn evaluate(page: &[u8], number: u32, colour: &[i32]) -> Reply {
+    validate(page)?;
     match components(page, number) {
-        None => refused(8),
-        Some(count) if colour.len() != count => refused(9),
+        None => Err((8, 0)),
+        Some(count) if colour.len() != count => Err((9, 0)),
         Some(_) => answered(page, number, values_of(colour)),
     }
 }
 
 /// The answer on an accepted page that has the space.
-fn answered(page: &[u8], number: u32, values: [i32; 4]) -> Answer {
+fn answered(page: &[u8], number: u32, values: [i32; 4]) -> Reply {
     let p = |gamma| tenths(gamma).unwrap_or(10);
-    let [a, b, c, _] = values.map(|v| limit(v, 0, ONE));
-    match block_at(page, number as usize).and_then(Body::of) {
+    let limited = values.map(|v| limit(v, 0, ONE));
+    let [a, b, c, _] = limited;
+    let xyz = match block_at(page, number as usize).and_then(Body::of) {
         Some(Body::CalGray { white, gamma, .. }) => {
-            Answer::Xyz(decode::cal_gray(white[0], white[2], p(gamma), a))
+            decode::cal_gray(white[0], white[2], p(gamma), a)
         }
         Some(Body::CalRgb { gammas, matrix, .. }) => {
-            Answer::Xyz(decode::cal_rgb(gammas.map(p), matrix, [a, b, c]))
+            decode::cal_rgb(gammas.map(p), matrix, [a, b, c])
         }
-        _ => answer(page, number, values),
-    }
+        _ => return answer(page, number, values),
+    };
+    // The values past the components are 0, which 0..1 keeps.
+    Ok(Colour {
+        answer: Answer::Xyz(xyz),
+        moved: limited != values,
+    })
 }

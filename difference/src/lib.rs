@@ -9,7 +9,7 @@ pub mod inputs;
 
 use reference::block as other;
 use reference::cie::Answer as Expected;
-use sktelbaan::{Answer, Body, Record, Refusal};
+use sktelbaan::{Answer, Body, Colour, Record, Refusal};
 use std::fmt;
 
 /// What an operation replies.
@@ -21,11 +21,11 @@ pub struct Library {
     /// Validates a page.
     pub validate: fn(&[u8]) -> Reply<()>,
     /// Evaluates a colour of the space at a number of a page.
-    pub evaluate: fn(&[u8], u32, &[i32]) -> Reply<Answer>,
+    pub evaluate: fn(&[u8], u32, &[i32]) -> Reply<Colour>,
     /// Writes the recipe of the space at a number of a page.
     pub write_recipe: fn(&[u8], u32, &mut [i32]) -> Reply<usize>,
     /// Runs a recipe on a colour.
-    pub run: fn(&[i32], &[i32]) -> Reply<Answer>,
+    pub run: fn(&[i32], &[i32]) -> Reply<Colour>,
     /// Writes a record as a block.
     pub write_block: fn(&Record) -> Reply<[u8; 512]>,
     /// Reads the record of a block.
@@ -53,12 +53,12 @@ pub const REFERENCE: Library = Library {
             .map_err(refusal_of)
     },
     evaluate: |page, number, components| {
-        answer_of(reference::colour::evaluate(page, number, components))
+        colour_of(reference::colour::evaluate(page, number, components))
     },
     write_recipe: |page, number, words| {
         reference::recipe::write(page, number, words).map_err(refusal_of)
     },
-    run: |words, components| answer_of(reference::runner::run(words, components)),
+    run: |words, components| colour_of(reference::runner::run(words, components)),
     write_block: |record| {
         let mut block = [0; 512];
         other::write_block(&theirs(record), &mut block)
@@ -81,8 +81,8 @@ pub const REFERENCE: Library = Library {
 /// The fast rival, in the same form; blocks and the writing of recipes are the plain ones.
 pub const FAST: Library = Library {
     validate: |page| fast::validate(page).map(|_| ()).map_err(refusal_of),
-    evaluate: |page, number, components| answer_of(fast::evaluate(page, number, components)),
-    run: |words, components| answer_of(fast::run(words, components)),
+    evaluate: |page, number, components| colour_of(fast::evaluate(page, number, components)),
+    run: |words, components| colour_of(fast::run(words, components)),
     ..REFERENCE
 };
 
@@ -208,17 +208,19 @@ fn refusal_of((number, block): (u32, u32)) -> Refusal {
     Refusal { number, block }
 }
 
-/// An answer of the second implementation in the library's form.
-fn answer_of(answer: Expected) -> Reply<Answer> {
-    Ok(match answer {
+/// A colour of the second implementation in the library's form.
+fn colour_of(reply: reference::colour::Reply) -> Reply<Colour> {
+    let found = reply.map_err(refusal_of)?;
+    let answer = match found.answer {
         Expected::Gray(v) => Answer::Gray(v),
         Expected::Rgb(v) => Answer::Rgb(v),
         Expected::Cmyk(v) => Answer::Cmyk(v),
         Expected::Xyz(v) => Answer::Xyz(v),
         Expected::NoMark => Answer::NoMark,
         Expected::EveryInk(v) => Answer::EveryInk(v),
-        Expected::Refused { number, block } => return Err(Refusal { number, block }),
-    })
+    };
+    let moved = found.moved;
+    Ok(Colour { answer, moved })
 }
 
 /// One input that the two reply to differently.
@@ -250,6 +252,8 @@ impl std::error::Error for Difference {}
 pub struct Tally {
     /// How many were accepted or answered.
     pub accepted: u64,
+    /// How many of those answered say that the colour was pulled in.
+    pub moved: u64,
     /// How many were refused, by the refusal's number; the first place stays 0.
     pub refused: [u64; 12],
 }
@@ -267,6 +271,12 @@ impl Tally {
         }
     }
 
+    /// Counts one colour's reply.
+    fn count_colour(&mut self, reply: &Reply<Colour>) {
+        self.count(reply);
+        self.moved += u64::from(reply.is_ok_and(|colour| colour.moved));
+    }
+
     /// How many inputs there were.
     pub fn total(&self) -> u64 {
         self.accepted + self.refused.iter().sum::<u64>()
@@ -276,6 +286,9 @@ impl Tally {
 impl fmt::Display for Tally {
     fn fmt(&self, f: &mut fmt::Formatter<'_>) -> fmt::Result {
         write!(f, "{}: accepted {}", self.total(), self.accepted)?;
+        if self.moved > 0 {
+            write!(f, " ({} moved)", self.moved)?;
+        }
         let mut refusals = (0..).zip(&self.refused).filter(|(_, count)| **count > 0);
         refusals.try_for_each(|(number, count)| write!(f, ", refusal {number} {count}"))
     }

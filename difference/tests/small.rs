@@ -2,7 +2,8 @@
 
 use difference::{compare, Library, PROVED, REFERENCE};
 use reference::generate::Rng;
-use sktelbaan::{Answer, Refusal};
+use reference::page::{family, Family};
+use sktelbaan::{Answer, Colour, Refusal};
 
 /// How many pages are compared: fewer where the tests are not built for speed.
 const PAGES: u64 = if cfg!(debug_assertions) { 1_000 } else { 4_000 };
@@ -22,6 +23,7 @@ fn colours_are_evaluated_alike() {
     let tally = compare::evaluate(&PROVED, &mut Rng::new(2), 4 * PAGES).unwrap();
     assert_eq!(tally.total(), 4 * PAGES);
     assert!(tally.accepted > PAGES);
+    assert!(tally.moved > PAGES / 4 && tally.accepted - tally.moved > PAGES / 4);
     for number in 1..=9 {
         assert!(tally.refused[number] > 0, "refusal {number} was never met");
     }
@@ -43,6 +45,7 @@ fn recipes_are_written_and_run_alike() {
 fn word_lists_are_run_alike() {
     let tally = compare::run(&PROVED, &mut Rng::new(4), PAGES).unwrap();
     assert!(tally.total() >= PAGES && tally.accepted > PAGES / 5);
+    assert!(tally.moved > PAGES / 20 && tally.accepted - tally.moved > PAGES / 20);
     assert!(tally.refused[9] > 0 && tally.refused[11] > PAGES / 10);
 }
 
@@ -78,6 +81,12 @@ fn records_and_blocks_are_written_and_read_alike() {
     }
 }
 
+/// A colour that an idle library gives.
+const BLACK: Colour = Colour {
+    answer: Answer::Gray(0.0),
+    moved: false,
+};
+
 /// A refusal that is about no block.
 fn refusal(number: u32) -> Refusal {
     Refusal { number, block: 0 }
@@ -111,13 +120,13 @@ fn idle_libraries_are_caught() {
     assert_eq!(caught(&refusing), [true; 4]);
     let constant = Library {
         validate: |_| Ok(()),
-        evaluate: |_, _, _| Ok(Answer::Gray(0.0)),
+        evaluate: |_, _, _| Ok(BLACK),
         write_recipe: |_, _, words| {
             let room = words.first_chunk_mut().ok_or(refusal(10))?;
             *room = [1, 4];
             Ok(2)
         },
-        run: |_, _| Ok(Answer::Gray(0.0)),
+        run: |_, _| Ok(BLACK),
         ..REFERENCE
     };
     assert_eq!(caught(&constant), [true; 4]);
@@ -171,9 +180,14 @@ fn faults_in_one_place_are_caught() {
     assert_eq!(caught(&blind), [true, false, false, false]);
     // Loses the sign of a zero.
     let unsigned = Library {
-        run: |words, components| match (REFERENCE.run)(words, components)? {
-            Answer::Xyz(v) => Ok(Answer::Xyz(v.map(|v| v + 0.0))),
-            answer => Ok(answer),
+        run: |words, components| {
+            (REFERENCE.run)(words, components).map(|colour| match colour.answer {
+                Answer::Xyz(v) => Colour {
+                    answer: Answer::Xyz(v.map(|v| v + 0.0)),
+                    ..colour
+                },
+                _ => colour,
+            })
         },
         ..REFERENCE
     };
@@ -198,20 +212,68 @@ fn faults_in_one_place_are_caught() {
     assert_eq!(caught(&gray), [false, true, true, true]);
 }
 
-/// An answer that always marks.
-fn marked(answer: Answer) -> Answer {
-    match answer {
+/// A colour that always marks.
+fn marked(colour: Colour) -> Colour {
+    let answer = match colour.answer {
         Answer::NoMark => Answer::EveryInk(0.0),
         other => other,
-    }
+    };
+    Colour { answer, ..colour }
 }
 
-/// An answer in which every ink is Gray.
-fn grayed(answer: Answer) -> Answer {
-    match answer {
+/// A colour in which every ink is Gray.
+fn grayed(colour: Colour) -> Colour {
+    let answer = match colour.answer {
         Answer::EveryInk(v) => Answer::Gray(v),
         other => other,
-    }
+    };
+    Colour { answer, ..colour }
+}
+
+/// A colour with another word on whether it was pulled in.
+fn saying(moved: bool, colour: Colour) -> Colour {
+    Colour { moved, ..colour }
+}
+
+#[test]
+fn a_wrong_word_on_moving_is_caught() {
+    let never = Library {
+        evaluate: |page, number, components| {
+            (REFERENCE.evaluate)(page, number, components).map(|colour| saying(false, colour))
+        },
+        run: |words, components| {
+            (REFERENCE.run)(words, components).map(|colour| saying(false, colour))
+        },
+        ..REFERENCE
+    };
+    assert_eq!(caught(&never), [false, true, true, true]);
+    let always = Library {
+        evaluate: |page, number, components| {
+            (REFERENCE.evaluate)(page, number, components).map(|colour| saying(true, colour))
+        },
+        run: |words, components| {
+            (REFERENCE.run)(words, components).map(|colour| saying(true, colour))
+        },
+        ..REFERENCE
+    };
+    assert_eq!(caught(&always), [false, true, true, true]);
+    // On the page alone: a recipe's run is held to it.
+    let forgetful = Library {
+        evaluate: never.evaluate,
+        ..REFERENCE
+    };
+    assert_eq!(caught(&forgetful), [false, true, true, false]);
+    // Says yes where rounding alone changed an index.
+    let rounding = Library {
+        evaluate: |page, number, components| {
+            let indexed = family(page, number) == Some(Family::Indexed);
+            let rounded = components.iter().any(|v| v % 1_000_000 != 0);
+            let colour = (REFERENCE.evaluate)(page, number, components)?;
+            Ok(saying(colour.moved || indexed && rounded, colour))
+        },
+        ..REFERENCE
+    };
+    assert_eq!(caught(&rounding), [false, true, true, false]);
 }
 
 #[test]

@@ -15,7 +15,7 @@
 //! | 34 | xPAGE | the listing, its lines joined by `; ` |
 //!
 //! An answer is what it is in, `Gray`, `RGB`, `CMYK`, `XYZ`, `NoMark` or `EveryInk`, and its floats, 16 hexadecimal
-//! digits each; or `refused N block B`.
+//! digits each; after operations 31 and 33 then ` moved` where a limiting moved something. Or it is `refused N block B`.
 //!
 //! A record is its own number, its kind and the body's numbers in the paper's order (base hival; alternate
 //! exponent name-length C0 C1), then bytes: read, a Separation's 128 name places or a palette's 504; to be
@@ -31,6 +31,7 @@ mod forms;
 mod interpreter;
 mod maker;
 mod marks;
+mod moved;
 mod numbers;
 mod pages;
 mod paper;
@@ -39,10 +40,10 @@ mod runs;
 #[cfg(test)]
 mod tests;
 
-pub use format::{answer_text, dotted, float_text, hex_of, Case};
+pub use format::{answer_text, dotted, float_text, hex_of, reply_text, Case};
 
 /// All the worked cases, in the order in which they are put to the program: the paper's own, numbers and steps,
-/// one block by itself, pages, colours with their recipes, and the Separations None and All.
+/// one block by itself, pages, colours with their recipes, the Separations None and All, and colours that are pulled in.
 pub fn all() -> Vec<Case> {
     let groups = [
         paper::cases,
@@ -54,6 +55,7 @@ pub fn all() -> Vec<Case> {
         recipes::cases,
         runs::cases,
         marks::cases,
+        moved::cases,
     ];
     groups.iter().flat_map(|make| make()).collect()
 }

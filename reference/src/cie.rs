@@ -3,8 +3,8 @@
 use crate::gamma::decode;
 use crate::numbers::float_of;
 
-/// "An answer is one of Gray, RGB, CMYK or XYZ with its floats, or a refusal"; by document 02 also "no mark", or "every
-/// ink" with one float.
+/// "An answer is one of Gray, RGB, CMYK or XYZ with its floats"; by document 02 also "no mark", or "every ink" with one
+/// float. That it may be a refusal is said where a colour is asked for, by [`crate::colour::Reply`].
 /// Two answers are the same when every float has the same bits (so 0 and -0 differ).
 #[derive(Clone, Copy, Debug)]
 pub enum Answer {
@@ -20,13 +20,6 @@ pub enum Answer {
     NoMark,
     /// "Every ink": the answer of a Separation named All, with its tint.
     EveryInk(f64),
-    /// A refusal with its number in the paper's table and the block it was found in (0 where none is meant).
-    Refused {
-        /// The refusal's number, 1 to 11.
-        number: u32,
-        /// The number of the block at fault, or 0.
-        block: u32,
-    },
 }
 
 /// Whether two runs of floats have the same bits throughout.
@@ -43,13 +36,6 @@ impl PartialEq for Answer {
             (Answer::NoMark, Answer::NoMark) => true,
             (Answer::Rgb(a), Answer::Rgb(b)) | (Answer::Xyz(a), Answer::Xyz(b)) => same(a, b),
             (Answer::Cmyk(a), Answer::Cmyk(b)) => same(a, b),
-            (
-                Answer::Refused { number, block },
-                Answer::Refused {
-                    number: other_number,
-                    block: other_block,
-                },
-            ) => number == other_number && block == other_block,
             _ => false,
         }
     }
@@ -134,18 +120,6 @@ mod tests {
         assert_eq!(Answer::NoMark, Answer::NoMark);
         assert_ne!(Answer::NoMark, Answer::EveryInk(0.0));
         assert_ne!(Answer::Cmyk([0.0; 4]), Answer::Cmyk([0.0, 0.0, 0.0, -0.0]));
-        let refused = Answer::Refused {
-            number: 2,
-            block: 1,
-        };
-        assert_eq!(refused, refused);
-        assert_ne!(
-            refused,
-            Answer::Refused {
-                number: 2,
-                block: 0
-            }
-        );
     }
 
     #[test]

@@ -1,15 +1,35 @@
-//! Answering a colour on a page: document 01's "Colour steps", and document 02's None and All.
+//! Answering a colour on a page: document 01's "Colour steps", and document 02's None and All and what is pulled in.
 
 use crate::block::Body;
 use crate::cie::{cal_gray, cal_rgb, lab, Answer};
 use crate::gamma::tenths;
-use crate::numbers::{float_of, index, limit, palette_value, tint_power, tint_value, ONE};
+use crate::numbers::{
+    float_of, index, index_moves, limit, moves, palette_value, tint_power, tint_value, ONE,
+};
 use crate::page::{body_at, components, family, name_at, palette_byte, ranges, validate, Family};
 
-/// The refusal that belongs to no block.
-pub(crate) fn refused(number: u32) -> Answer {
-    Answer::Refused { number, block: 0 }
+/// A colour's answer, with document 02's "one yes or no: some limiting, at any level, moved something".
+#[derive(Clone, Copy, Debug, PartialEq, Eq)]
+pub struct Colour {
+    /// The answer.
+    pub answer: Answer,
+    /// Whether some limiting moved something.
+    pub moved: bool,
 }
+
+impl Colour {
+    /// The same colour, where a limiting before it did or did not move something.
+    fn after(self, moved: bool) -> Colour {
+        Colour {
+            moved: moved || self.moved,
+            ..self
+        }
+    }
+}
+
+/// What comes back for a colour: its answer and whether something was moved, or a refusal's number in the paper's table
+/// and its block (0 where none is meant), which say nothing of moving.
+pub type Reply = Result<Colour, (u32, u32)>;
 
 /// The values that a colour starts with, those not given being 0.
 pub(crate) fn values_of(colour: &[i32]) -> [i32; 4] {
@@ -17,44 +37,51 @@ pub(crate) fn values_of(colour: &[i32]) -> [i32; 4] {
 }
 
 /// "A colour: judge, 8, 9."
-pub fn evaluate(page: &[u8], number: u32, colour: &[i32]) -> Answer {
-    if let Err((number, block)) = validate(page) {
-        return Answer::Refused { number, block };
-    }
+pub fn evaluate(page: &[u8], number: u32, colour: &[i32]) -> Reply {
+    validate(page)?;
     let Some(count) = components(page, number) else {
-        return refused(8);
+        return Err((8, 0));
     };
     if colour.len() != count {
-        return refused(9);
+        return Err((9, 0));
     }
     answer(page, number, values_of(colour))
 }
 
 /// The colour steps in the space that a number asks for, on an accepted page that has it: `evaluate` sees to both. "So
 /// nesting falls at each step": each call of itself is for the inner space, and the rank Indexed, Separation, plain falls.
-pub fn answer(page: &[u8], number: u32, values: [i32; 4]) -> Answer {
+pub fn answer(page: &[u8], number: u32, values: [i32; 4]) -> Reply {
+    let first = values[0];
     match (body_at(page, number), name_at(page, number)) {
         (Some(Body::Indexed { base, hival }), _) => {
-            let base = u32::from(base);
-            let row = index(values[0], hival.min(255) as u8);
-            answer(page, base, row_of(page, number, base, row))
+            let (base, hival) = (u32::from(base), hival.min(255) as u8);
+            let row = row_of(page, number, base, index(first, hival));
+            let inner = answer(page, base, row)?;
+            Ok(inner.after(index_moves(first, hival)))
         }
-        // "A Separation named exactly None now answers "no mark", one named All answers "every ink" with the limited
-        // tint's float."
-        (_, Some(b"None")) => Answer::NoMark,
-        (_, Some(b"All")) => Answer::EveryInk(float_of(limit(values[0], 0, ONE))),
+        // "A Separation named exactly None now answers "no mark"", and "limits nothing".
+        (_, Some(b"None")) => Ok(Colour {
+            answer: Answer::NoMark,
+            moved: false,
+        }),
+        // "One named All answers "every ink" with the limited tint's float."
+        (_, Some(b"All")) => Ok(Colour {
+            answer: Answer::EveryInk(float_of(limit(first, 0, ONE))),
+            moved: moves(first, 0, ONE),
+        }),
         (Some(body @ Body::Separation { alternate, .. }), _) => {
-            let tint = limit(values[0], 0, ONE);
-            answer(page, u32::from(alternate), tinted(&body, tint))
+            let tint = limit(first, 0, ONE);
+            let inner = answer(page, u32::from(alternate), tinted(&body, tint))?;
+            Ok(inner.after(moves(first, 0, ONE)))
         }
         _ => plain(page, number, values),
     }
 }
 
 /// The colour steps in a space that has no inner one.
-fn plain(page: &[u8], number: u32, values: [i32; 4]) -> Answer {
-    let [a, b, c, d] = limited(page, number, values);
-    match (family(page, number), body_at(page, number)) {
+fn plain(page: &[u8], number: u32, values: [i32; 4]) -> Reply {
+    let ([a, b, c, d], moved) = limited(page, number, values);
+    let answer = match (family(page, number), body_at(page, number)) {
         // "Device. The float of each component."
         (Some(Family::DeviceGray), _) => Answer::Gray(float_of(a)),
         (Some(Family::DeviceRgb), _) => Answer::Rgb([a, b, c].map(float_of)),
@@ -70,14 +97,18 @@ fn plain(page: &[u8], number: u32, values: [i32; 4]) -> Answer {
             let [xw, _, zw] = white;
             Answer::Xyz(lab(xw, zw, a, b, c))
         }
-        _ => refused(8),
-    }
+        _ => return Err((8, 0)),
+    };
+    Ok(Colour { answer, moved })
 }
 
-/// "Every component is first taken to the nearest number in range."
-fn limited(page: &[u8], number: u32, values: [i32; 4]) -> [i32; 4] {
+/// "Every component is first taken to the nearest number in range", and whether that moved one.
+fn limited(page: &[u8], number: u32, values: [i32; 4]) -> ([i32; 4], bool) {
+    let count = components(page, number).unwrap_or(0);
     let ranges = ranges(page, number);
-    std::array::from_fn(|k| limit(values[k], ranges[k].0, ranges[k].1))
+    let limited = std::array::from_fn(|k| limit(values[k], ranges[k].0, ranges[k].1));
+    let moved = (0..count).any(|k| moves(values[k], ranges[k].0, ranges[k].1));
+    (limited, moved)
 }
 
 /// The count of tenths of a gamma, which an accepted page's gamma has.

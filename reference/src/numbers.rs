@@ -61,10 +61,22 @@ pub fn limit(v: i32, lo: i32, hi: i32) -> i32 {
     }
 }
 
+/// Document 02: "Limiting a component now also says whether it moved it."
+pub fn moves(v: i32, lo: i32, hi: i32) -> bool {
+    limit(v, lo, hi) != v
+}
+
 /// "The component rounds half up to an integer, then goes to the nearest in 0..hival."
 pub fn index(v: i32, hival: u8) -> u8 {
     let rounded = half_up(i64::from(v), 1_000_000);
     rounded.clamp(0, i64::from(hival)) as u8
+}
+
+/// Document 02: "so does limiting a rounded index". Rounding by itself moves nothing: what counts is that the integer
+/// lies outside 0..hival.
+pub fn index_moves(v: i32, hival: u8) -> bool {
+    let rounded = half_up(i64::from(v), 1_000_000);
+    rounded < 0 || rounded > i64::from(hival)
 }
 
 /// "A palette byte v in a range lo..hi (numbers in millionths) gives lo + v(hi - lo)/255, rounded half up."
@@ -207,6 +219,18 @@ mod tests {
         assert_eq!(tint_value(5, 5, 123_456), 5);
         assert_eq!(tint_value(1, 2, i32::MAX), 2);
         assert_eq!(tint_power(i32::MIN, 0), 0);
+    }
+
+    #[test]
+    fn what_moves() {
+        assert!(!moves(0, 0, 10) && !moves(10, 0, 10) && !moves(5, 0, 10));
+        assert!(moves(-1, 0, 10) && moves(11, 0, 10) && moves(3, 4, 4));
+        assert!(!moves(i32::MIN, i32::MIN, i32::MAX) && !moves(i32::MAX, i32::MIN, i32::MAX));
+        assert!(!index_moves(3_400_000, 3) && !index_moves(3_499_999, 3));
+        assert!(index_moves(3_500_000, 3) && index_moves(i32::MAX, 255));
+        assert!(!index_moves(-500_000, 3) && index_moves(-500_001, 3));
+        assert!(!index_moves(499_999, 0) && index_moves(500_000, 0));
+        assert!(!index_moves(255_499_999, 255) && index_moves(255_500_000, 255));
     }
 
     #[test]

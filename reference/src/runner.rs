@@ -1,9 +1,9 @@
 //! Running a recipe: no page and no other storage.
 
 use crate::cie::{cal_gray, cal_rgb, lab, Answer};
-use crate::colour::{refused, values_of};
+use crate::colour::{values_of, Colour, Reply};
 use crate::gamma::tenths;
-use crate::numbers::{float_of, index, limit, tint_power, tint_value, ONE};
+use crate::numbers::{float_of, index, index_moves, limit, moves, tint_power, tint_value, ONE};
 use crate::recipe::MOST_WORDS;
 
 /// A recipe that was read: "the input count 1..4, steps, one closing step, nothing more".
@@ -156,19 +156,33 @@ fn read(words: &[i32]) -> Option<Recipe<'_>> {
     })
 }
 
-/// "Running: 11, 9." Then the steps, on "four values, those not given being 0".
-pub fn run(words: &[i32], colour: &[i32]) -> Answer {
+/// "Running: 11, 9." Then the steps, on "four values, those not given being 0". By document 02 a run too carries "one yes
+/// or no: some limiting, at any level, moved something".
+pub fn run(words: &[i32], colour: &[i32]) -> Reply {
     let Some(recipe) = read(words) else {
-        return refused(11);
+        return Err((11, 0));
     };
     if colour.len() != recipe.count {
-        return refused(9);
+        return Err((9, 0));
     }
     let mut values = values_of(colour);
+    let mut moved = false;
     for step in &recipe.steps {
+        moved |= limiting_moves(step, &values);
         take(step, &mut values);
     }
-    close(&recipe.closing, values)
+    let answer = close(&recipe.closing, values);
+    Ok(Colour { answer, moved })
+}
+
+/// Whether the limiting in a step moves something, for the values before it: the limited value of step 1, the rounded
+/// index of step 2, the tint of step 3.
+fn limiting_moves(step: &Step<'_>, values: &[i32; 4]) -> bool {
+    match *step {
+        Step::Limit { k, lo, hi } => moves(values[k], lo, hi),
+        Step::Rows { h, .. } => index_moves(values[0], h),
+        Step::Tint { .. } => moves(values[0], 0, ONE),
+    }
 }
 
 /// Takes a step.
@@ -188,7 +202,8 @@ fn take(step: &Step<'_>, values: &mut [i32; 4]) {
     }
 }
 
-/// The answer of a closing step for the values as they stand.
+/// The answer of a closing step for the values as they stand. Nothing here is a limiting that counts: "not the nearer end
+/// in a gamma".
 pub fn close(closing: &Closing, values: [i32; 4]) -> Answer {
     let [a, b, c, d] = values;
     match *closing {

@@ -2,7 +2,7 @@
 
 use crate::block::{Record, BLOCK, BODY, DEVICE_CMYK, DEVICE_GRAY, DEVICE_RGB, MOST_BLOCKS};
 use crate::cie::Answer;
-use crate::colour::evaluate;
+use crate::colour::{evaluate, Reply};
 use crate::listing::list;
 use crate::numbers::ONE;
 use crate::recipe::recipe_of;
@@ -166,11 +166,17 @@ const COLOURS: &[(&str, u32, &[i32])] = &[
     ("scanner", 0, &[500_000]),
     ("scanner", 1, &[250_000, 500_000, 750_000]),
     ("lab", 0, &[50 * ONE, 20 * ONE, -30 * ONE]),
+    ("lab", 0, &[50 * ONE, 20 * ONE, -130 * ONE]),
     ("indexed", 0, &[5 * ONE]),
+    ("indexed", 0, &[7_400_000]),
+    ("indexed", 0, &[7_500_000]),
     ("separation", 0, &[500_000]),
     ("marks", 0, &[500_000]),
+    ("marks", 0, &[1_500_000]),
     ("marks", 1, &[250_000]),
+    ("marks", 1, &[1_500_000]),
     ("marks", 2, &[ONE]),
+    ("marks", 2, &[-ONE]),
     ("marks", 4, &[ONE]),
     ("large", 0, &[181 * ONE]),
     ("nested", 0, &[2_500_000]),
@@ -205,20 +211,24 @@ fn float_text(v: f64) -> String {
     }
 }
 
-/// An answer as the C program prints it.
-fn answer_text(answer: &Answer) -> String {
-    let (name, floats): (&str, &[f64]) = match answer {
+/// A colour's reply as the C program prints it.
+fn reply_text(reply: &Reply) -> String {
+    let colour = match reply {
+        Ok(colour) => colour,
+        Err((number, block)) => return format!("refused {number} block {block}"),
+    };
+    let (name, floats): (&str, &[f64]) = match &colour.answer {
         Answer::Gray(v) => ("Gray", std::slice::from_ref(v)),
         Answer::Rgb(v) => ("RGB", v),
         Answer::Cmyk(v) => ("CMYK", v),
         Answer::Xyz(v) => ("XYZ", v),
         Answer::NoMark => ("NoMark", &[]),
         Answer::EveryInk(v) => ("EveryInk", std::slice::from_ref(v)),
-        Answer::Refused { number, block } => return format!("refused {number} block {block}"),
     };
-    floats.iter().fold(name.to_string(), |text, v| {
+    let text = floats.iter().fold(name.to_string(), |text, v| {
         format!("{text} {}", float_text(*v))
-    })
+    });
+    text + if colour.moved { " moved" } else { "" }
 }
 
 /// The text that the C program prints for the colours to try, each after the words that it is started with.
@@ -231,11 +241,11 @@ pub fn colours() -> String {
         };
         let words: Vec<String> = components.iter().map(i32::to_string).collect();
         text += &format!("colour {name}.page {number} {}\n", words.join(" "));
-        let answer = evaluate(&sample.page, number, components);
-        text += &format!("page {}\n", answer_text(&answer));
+        let reply = evaluate(&sample.page, number, components);
+        text += &format!("page {}\n", reply_text(&reply));
         if let Ok(recipe) = recipe_of(&sample.page, number) {
             text += &format!("recipe of {} words\n", recipe.len());
-            text += &format!("run {}\n", answer_text(&run(&recipe, components)));
+            text += &format!("run {}\n", reply_text(&run(&recipe, components)));
         }
     }
     text
@@ -251,10 +261,10 @@ written by the second implementation:
 
     cargo run --release --offline --manifest-path reference/Cargo.toml --bin samples -- samples
 
-`colour.c` is a C program that evaluates a colour, writes the space's recipe, runs it and prints both answers. `run.c` runs a recipe that it wrote, with the
-plate setter's library alone. `edges.c` checks the C interface at its edges. With the libraries in `target/staticlib/` (`rt staticlib sktelbaan` and
-`rt staticlib sktelbaan_runner` put them there), `samples/build` compiles all three, runs the first two on the colours of `colours.txt`, and compares what
-they print with that text.
+`colour.c` is a C program that evaluates a colour, writes the space's recipe, runs it and prints both answers, with the word `moved` after one whose
+colour was pulled in. `run.c` runs a recipe that it wrote, with the plate setter's library alone. `edges.c` checks the C interface at its edges. With the
+libraries in `target/staticlib/` (`rt staticlib sktelbaan` and `rt staticlib sktelbaan_runner` put them there), `samples/build` compiles all three, runs the
+first two on the colours of `colours.txt`, and compares what they print with that text.
 ",
     );
     for Sample { name, about, page } in all() {
@@ -302,5 +312,7 @@ mod tests {
         assert!(text.contains("\npage XYZ 0.95050000000000001 1 1.089\n"));
         assert!(text.contains("\npage NoMark\nrecipe of 2 words\nrun NoMark\n"));
         assert!(text.contains("\npage EveryInk 0.25\nrecipe of 6 words\nrun EveryInk 0.25\n"));
+        assert!(text.contains("\npage EveryInk 1 moved\nrecipe of 6 words\nrun EveryInk 1 moved\n"));
+        assert!(text.contains("\npage NoMark moved\nrecipe of 9 words\nrun NoMark moved\n"));
     }
 }

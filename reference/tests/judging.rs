@@ -4,7 +4,6 @@ mod common;
 
 use common::*;
 use reference::block::{Body, BLOCK, DEVICE_CMYK, DEVICE_GRAY, DEVICE_RGB};
-use reference::cie::Answer;
 use reference::colour::evaluate;
 use reference::generate::{damage, random_page, Rng};
 use reference::numbers::ONE;
@@ -215,7 +214,7 @@ fn damaged_pages_are_judged_alike() {
                 last_blocks += usize::from(block > 0);
                 assert_eq!(
                     evaluate(&page, u32::from(DEVICE_GRAY), &[]),
-                    Answer::Refused { number, block }
+                    Err((number, block))
                 );
             }
         }

@@ -5,7 +5,7 @@ mod common;
 use common::*;
 use reference::block::{Body, Record, DEVICE_CMYK, DEVICE_GRAY};
 use reference::cie::Answer;
-use reference::colour::evaluate;
+use reference::colour::{evaluate, Colour, Reply};
 use reference::generate::{random_component, random_page, Rng};
 use reference::listing::list;
 use reference::numbers::{float_of, limit, ONE};
@@ -14,10 +14,7 @@ use reference::recipe::recipe_of;
 use reference::records::named;
 use reference::runner::run;
 
-const NINE: Answer = Answer::Refused {
-    number: 9,
-    block: 0,
-};
+const NINE: Reply = Err((9, 0));
 
 /// A Separation of this name over DeviceCMYK.
 fn over_cmyk(number: u16, name: &[u8]) -> Record {
@@ -43,17 +40,17 @@ fn the_name_decides_exactly() {
     for name in near {
         let made = page(&[over_cmyk(0, name)]);
         assert_eq!(name_at(&made, 0), Some(name));
-        let answer = evaluate(&made, 0, &[ONE]);
-        assert_eq!(answer, Answer::Cmyk([5, 6, 7, 8].map(float_of)));
+        let answer = Answer::Cmyk([5, 6, 7, 8].map(float_of));
+        assert_eq!(evaluate(&made, 0, &[ONE]), kept(answer));
         assert_eq!(recipe_of(&made, 0).unwrap().len(), 29);
     }
     assert_eq!(
         evaluate(&page(&[over_cmyk(0, b"None")]), 0, &[ONE]),
-        Answer::NoMark
+        kept(Answer::NoMark)
     );
     assert_eq!(
         evaluate(&page(&[over_cmyk(0, b"All")]), 0, &[ONE]),
-        Answer::EveryInk(1.0)
+        kept(Answer::EveryInk(1.0))
     );
     // A name belongs to a Separation alone.
     let gray = page(&[record(0, cal_gray(ONE))]);
@@ -65,17 +62,19 @@ fn the_name_decides_exactly() {
 fn every_ink_has_the_limited_tint() {
     let all = page(&[over_cmyk(0, b"All")]);
     let none = page(&[over_cmyk(0, b"None")]);
-    for (v, float) in [
-        (i32::MIN, 0.0),
-        (-1, 0.0),
-        (0, 0.0),
-        (250_000, 0.25),
-        (ONE, 1.0),
-        (ONE + 1, 1.0),
-        (i32::MAX, 1.0),
+    for (v, float, moved) in [
+        (i32::MIN, 0.0, true),
+        (-1, 0.0, true),
+        (0, 0.0, false),
+        (250_000, 0.25, false),
+        (ONE, 1.0, false),
+        (ONE + 1, 1.0, true),
+        (i32::MAX, 1.0, true),
     ] {
-        assert_eq!(evaluate(&all, 0, &[v]), Answer::EveryInk(float));
-        assert_eq!(evaluate(&none, 0, &[v]), Answer::NoMark);
+        let answer = Answer::EveryInk(float);
+        assert_eq!(evaluate(&all, 0, &[v]), Ok(Colour { answer, moved }));
+        // None limits nothing.
+        assert_eq!(evaluate(&none, 0, &[v]), kept(Answer::NoMark));
     }
     for count in [0, 2, 3, 4, 5] {
         assert_eq!(evaluate(&all, 0, &vec![0; count]), NINE);
@@ -101,10 +100,18 @@ fn recipes_and_listing() {
         list(&indexed_over(b"All")),
         "blocks 3\n0 Indexed 1 12\n2 Separation 1 6\n"
     );
-    for (v, float) in [(-ONE, 0.0), (ONE, 0.2), (1_500_000, 1.0), (9 * ONE, 1.0)] {
-        let all = indexed_over(b"All");
-        assert_eq!(evaluate(&all, 0, &[v]), Answer::EveryInk(float));
-        assert_eq!(evaluate(&indexed_over(b"None"), 0, &[v]), Answer::NoMark);
+    // An Indexed over either limits its index.
+    let (none, all) = (indexed_over(b"None"), indexed_over(b"All"));
+    for (v, float, moved) in [
+        (-ONE, 0.0, true),
+        (ONE, 0.2, false),
+        (1_500_000, 1.0, false),
+        (9 * ONE, 1.0, true),
+    ] {
+        let answer = Answer::EveryInk(float);
+        assert_eq!(evaluate(&all, 0, &[v]), Ok(Colour { answer, moved }));
+        let answer = Answer::NoMark;
+        assert_eq!(evaluate(&none, 0, &[v]), Ok(Colour { answer, moved }));
     }
 }
 
@@ -135,22 +142,24 @@ fn both_occur_on_random_pages() {
         let page = random_page(&mut rng);
         for (number, _) in spaces(&page) {
             let v = random_component(&mut rng);
-            let answer = match name_at(&page, number) {
+            let reply = match name_at(&page, number) {
                 Some(b"None") => {
                     none += 1;
-                    Answer::NoMark
+                    kept(Answer::NoMark)
                 }
                 Some(b"All") => {
                     all += 1;
-                    Answer::EveryInk(float_of(limit(v, 0, ONE)))
+                    let answer = Answer::EveryInk(float_of(limit(v, 0, ONE)));
+                    let moved = !(0..=ONE).contains(&v);
+                    Ok(Colour { answer, moved })
                 }
                 name => {
                     others += u32::from(name.is_some());
                     continue;
                 }
             };
-            assert_eq!(evaluate(&page, number, &[v]), answer);
-            assert_eq!(run(&recipe_of(&page, number).unwrap(), &[v]), answer);
+            assert_eq!(evaluate(&page, number, &[v]), reply);
+            assert_eq!(run(&recipe_of(&page, number).unwrap(), &[v]), reply);
         }
     }
     assert!(

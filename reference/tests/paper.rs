@@ -53,50 +53,52 @@ fn an_all_zero_block_is_an_accepted_page_of_no_spaces() {
 #[test]
 fn cal_gray_white_and_below() {
     let page = page(&[record(0, cal_gray(ONE))]);
-    assert_eq!(evaluate(&page, 0, &[ONE]), XYZ_WHITE);
-    assert_eq!(evaluate(&page, 0, &[-3 * ONE]), XYZ_ZERO);
-    assert_eq!(evaluate(&page, 0, &[7 * ONE]), XYZ_WHITE);
+    assert_eq!(evaluate(&page, 0, &[ONE]), kept(XYZ_WHITE));
+    assert_eq!(evaluate(&page, 0, &[-3 * ONE]), moved(XYZ_ZERO));
+    assert_eq!(evaluate(&page, 0, &[7 * ONE]), moved(XYZ_WHITE));
     assert_eq!(list(&page), "blocks 1\n0 CalGray 1 9\n");
 }
 
 #[test]
 fn lab_white_black_and_seam() {
     let page = page(&[record(0, usual_lab())]);
-    assert_eq!(evaluate(&page, 0, &[100 * ONE, 0, 0]), XYZ_WHITE);
-    assert_eq!(evaluate(&page, 0, &[0, 0, 0]), XYZ_ZERO);
+    assert_eq!(evaluate(&page, 0, &[100 * ONE, 0, 0]), kept(XYZ_WHITE));
+    assert_eq!(evaluate(&page, 0, &[0, 0, 0]), kept(XYZ_ZERO));
     let third = |whole: f64, below: f64| {
         let x = whole / below;
         (x * x) * x
     };
     assert_eq!(
         evaluate(&page, 0, &[8 * ONE, 0, 0]),
-        Answer::Xyz([
+        kept(Answer::Xyz([
             0.9505 * third(3e9, 14.5e9),
             third(24e6, 116e6),
             1.089 * third(1.2e9, 5.8e9)
-        ])
+        ]))
     );
     assert_eq!(
         evaluate(&page, 0, &[7_999_999, 0, 0]),
-        Answer::Xyz([
+        kept(Answer::Xyz([
             0.9505 * (107_999_986_500.0 / 12_194_500_000_000.0),
             863_999_892.0 / 97_556_000_000.0,
             1.089 * (43_199_994_600.0 / 4_877_800_000_000.0)
-        ])
+        ]))
     );
     // At L* 8, a* -1 the first is not cubed, the others are.
     assert_eq!(
         evaluate(&page, 0, &[8 * ONE, -ONE, 0]),
-        Answer::Xyz([
+        kept(Answer::Xyz([
             0.9505 * (104_868_000_000.0 / 12_194_500_000_000.0),
             third(24e6, 116e6),
             1.089 * third(1.2e9, 5.8e9)
-        ])
+        ]))
     );
     // a* and b* are limited by the range before anything else.
+    let ends = evaluate(&page, 0, &[100 * ONE, -100 * ONE, 100 * ONE]).unwrap();
+    assert!(!ends.moved);
     assert_eq!(
         evaluate(&page, 0, &[500 * ONE, -500 * ONE, i32::MAX]),
-        evaluate(&page, 0, &[100 * ONE, -100 * ONE, 100 * ONE])
+        moved(ends.answer)
     );
     // amin = amax: fine.
     let narrow = common::page(&[record(0, lab([5, 5, -5, -5]))]);
@@ -124,17 +126,19 @@ fn indices() {
     for hival in [3, 4, 254, 255] {
         let page = counting(hival);
         assert_eq!(validate(&page), Ok(2));
-        assert_eq!(evaluate(&page, 0, &[2_500_000]), row(3));
-        assert_eq!(evaluate(&page, 0, &[-500_000]), row(0));
-        assert_eq!(evaluate(&page, 0, &[-500_001]), row(0));
-        assert_eq!(evaluate(&page, 0, &[i32::MAX]), row(i64::from(hival)));
+        assert_eq!(evaluate(&page, 0, &[2_500_000]), kept(row(3)));
+        assert_eq!(evaluate(&page, 0, &[-500_000]), kept(row(0)));
+        assert_eq!(evaluate(&page, 0, &[-500_001]), moved(row(0)));
+        let last = row(i64::from(hival));
+        assert_eq!(evaluate(&page, 0, &[i32::MAX]), moved(last));
     }
-    assert_eq!(evaluate(&counting(254), 0, &[254_500_000]), row(254));
-    assert_eq!(evaluate(&counting(255), 0, &[254_500_000]), row(255));
+    let index = [254_500_000];
+    assert_eq!(evaluate(&counting(254), 0, &index), moved(row(254)));
+    assert_eq!(evaluate(&counting(255), 0, &index), kept(row(255)));
     // Byte B5 over 0..1 gives 709804.
     assert_eq!(
         evaluate(&counting(255), 0, &[0xb5 * ONE]),
-        Answer::Gray(0.709804)
+        kept(Answer::Gray(0.709804))
     );
 }
 
@@ -148,11 +152,11 @@ fn tints_before_the_alternates_limits() {
         [-ONE, 0, 0, 0],
         [3 * ONE, 0, 0, 0],
     )]);
-    assert_eq!(evaluate(&page, 0, &[0]), Answer::Gray(0.0));
-    assert_eq!(evaluate(&page, 0, &[ONE]), Answer::Gray(1.0));
+    assert_eq!(evaluate(&page, 0, &[0]), moved(Answer::Gray(0.0)));
+    assert_eq!(evaluate(&page, 0, &[ONE]), moved(Answer::Gray(1.0)));
     // Half of the way from -1 to 3 is 1; were the ends limited first it would be one half.
-    assert_eq!(evaluate(&page, 0, &[500_000]), Answer::Gray(1.0));
-    assert_eq!(evaluate(&page, 0, &[375_000]), Answer::Gray(0.5));
+    assert_eq!(evaluate(&page, 0, &[500_000]), kept(Answer::Gray(1.0)));
+    assert_eq!(evaluate(&page, 0, &[375_000]), kept(Answer::Gray(0.5)));
 }
 
 #[test]
@@ -346,10 +350,10 @@ fn the_matrix_is_not_transposed() {
     let page = page(&[record(0, body)]);
     assert_eq!(
         evaluate(&page, 0, &[ONE, 0, 0]),
-        Answer::Xyz([0.1, 0.2, 0.3])
+        kept(Answer::Xyz([0.1, 0.2, 0.3]))
     );
     assert_eq!(
         evaluate(&page, 0, &[0, 0, 9 * ONE]),
-        Answer::Xyz([0.7, 0.8, 0.9])
+        moved(Answer::Xyz([0.7, 0.8, 0.9]))
     );
 }

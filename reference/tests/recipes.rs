@@ -5,7 +5,7 @@ mod common;
 use common::*;
 use reference::block::{Body, BLOCK, DEVICE_CMYK, DEVICE_GRAY, DEVICE_RGB};
 use reference::cie::Answer;
-use reference::colour::evaluate;
+use reference::colour::{evaluate, Reply};
 use reference::generate::{damage, random_components, random_page, Rng};
 use reference::numbers::ONE;
 use reference::page::{block_at, components, family, name_at, spaces, validate, Family};
@@ -15,10 +15,7 @@ use reference::runner::run;
 /// How many random pages are looked at: fewer where the tests are not built for speed.
 const PAGES: usize = if cfg!(debug_assertions) { 60 } else { 500 };
 
-const NINE: Answer = Answer::Refused {
-    number: 9,
-    block: 0,
-};
+const NINE: Reply = Err((9, 0));
 
 /// The numbers that a page can be asked for: its spaces and the device codes.
 fn asked(page: &[u8]) -> Vec<u32> {
@@ -70,6 +67,8 @@ fn length(page: &[u8], number: u32) -> usize {
 fn a_recipe_run_equals_the_colour_on_the_page() {
     let mut rng = Rng::new(5);
     let mut longest = 0;
+    // How many colours moved nothing, and how many something.
+    let mut found = [0; 2];
     for _ in 0..PAGES {
         let page = random_page(&mut rng);
         assert!(validate(&page).is_ok());
@@ -80,19 +79,20 @@ fn a_recipe_run_equals_the_colour_on_the_page() {
             let count = components(&page, number).unwrap();
             for _ in 0..12 {
                 let colour = random_components(&mut rng, count);
-                let answer = evaluate(&page, number, &colour);
-                assert!(!matches!(answer, Answer::Refused { .. }));
-                assert_eq!(run(&words, &colour), answer);
+                let reply = evaluate(&page, number, &colour);
+                assert_eq!(run(&words, &colour), reply);
+                found[usize::from(reply.unwrap().moved)] += 1;
             }
             for other in 0..7 {
                 let colour = random_components(&mut rng, other);
-                let answer = evaluate(&page, number, &colour);
-                assert_eq!(answer == NINE, other != count);
-                assert_eq!(run(&words, &colour), answer);
+                let reply = evaluate(&page, number, &colour);
+                assert_eq!(reply == NINE, other != count);
+                assert_eq!(run(&words, &colour), reply);
             }
         }
     }
     assert_eq!(longest, MOST_WORDS);
+    assert!(found.iter().all(|count| *count > 10 * PAGES), "{found:?}");
 }
 
 #[test]
@@ -146,13 +146,7 @@ fn refusals_come_in_order() {
             unreachable!()
         };
         let number_given = if number_given == 10 { 9 } else { number_given };
-        assert_eq!(
-            asked,
-            Answer::Refused {
-                number: number_given,
-                block
-            }
-        );
+        assert_eq!(asked, Err((number_given, block)));
         refused += u32::from(number_given == 8);
         if number_given != 9 {
             assert_eq!(recipe_of(&page, number), expected.map(|_| Vec::new()));
@@ -174,22 +168,13 @@ fn asking_for_what_is_no_space_is_8() {
         ),
         palette(2, &[1]),
     ]);
-    let eight = Answer::Refused {
-        number: 8,
-        block: 0,
-    };
+    let eight = Err((8, 0));
     for number in [0, 2, 3, 63, 64, 0xff00, 0xff02, 0xff05, 0x1_ff01, u32::MAX] {
         assert_eq!(evaluate(&page, number, &[]), eight);
         assert_eq!(recipe_of(&page, number), Err((8, 0)));
     }
     assert_eq!(evaluate(&page, 1, &[]), NINE);
-    assert_eq!(evaluate(&page, 0xff01, &[ONE]), Answer::Gray(1.0));
+    assert_eq!(evaluate(&page, 0xff01, &[ONE]), kept(Answer::Gray(1.0)));
     // The page is judged first, for device codes too.
-    assert_eq!(
-        evaluate(&page[..2 * BLOCK], 0xff01, &[ONE]),
-        Answer::Refused {
-            number: 7,
-            block: 1
-        }
-    );
+    assert_eq!(evaluate(&page[..2 * BLOCK], 0xff01, &[ONE]), Err((7, 1)));
 }

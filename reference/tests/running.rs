@@ -1,8 +1,11 @@
 //! Running recipes, against a slow second runner that takes one word at a time.
 
+mod common;
+
+use common::{kept, moved};
 use reference::block::{DEVICE_CMYK, DEVICE_GRAY, DEVICE_RGB};
 use reference::cie::Answer;
-use reference::colour::evaluate;
+use reference::colour::{evaluate, Colour, Reply};
 use reference::generate::{
     damage_recipe, long_recipe, random_components, random_page, random_recipe, Rng,
 };
@@ -11,65 +14,62 @@ use reference::page::{components, spaces};
 use reference::recipe::{recipe_of, MOST_WORDS};
 use reference::runner::run;
 
-const NINE: Answer = Answer::Refused {
-    number: 9,
-    block: 0,
-};
-const ELEVEN: Answer = Answer::Refused {
-    number: 11,
-    block: 0,
-};
+const NINE: Reply = Err((9, 0));
+const ELEVEN: Reply = Err((11, 0));
 
 #[test]
 fn the_least_recipes() {
-    assert_eq!(run(&[1, 4], &[-7 * ONE]), Answer::Gray(-7.0));
-    assert_eq!(run(&[2, 4], &[ONE, 5]), Answer::Gray(1.0));
+    assert_eq!(run(&[1, 4], &[-7 * ONE]), kept(Answer::Gray(-7.0)));
+    assert_eq!(run(&[2, 4], &[ONE, 5]), kept(Answer::Gray(1.0)));
     // Values not given are 0.
-    assert_eq!(run(&[1, 6], &[ONE]), Answer::Cmyk([1.0, 0.0, 0.0, 0.0]));
+    assert_eq!(
+        run(&[1, 6], &[ONE]),
+        kept(Answer::Cmyk([1.0, 0.0, 0.0, 0.0]))
+    );
     // k may be beyond the input count.
     assert_eq!(
         run(&[1, 1, 3, ONE, ONE, 6], &[0]),
-        Answer::Cmyk([0.0, 0.0, 0.0, 1.0])
+        moved(Answer::Cmyk([0.0, 0.0, 0.0, 1.0]))
     );
     // Values that a step does not replace stay.
     assert_eq!(
         run(&[3, 2, 1, 0, 9 * ONE, 5], &[ONE, ONE, 2 * ONE]),
-        Answer::Rgb([9.0, 1.0, 2.0])
+        moved(Answer::Rgb([9.0, 1.0, 2.0]))
     );
     assert_eq!(
         run(&[3, 3, 1, 2, 0, 0, ONE, 2 * ONE, 5], &[500_000, 7, ONE]),
-        Answer::Rgb([0.5, 1.0, 1.0])
+        kept(Answer::Rgb([0.5, 1.0, 1.0]))
     );
     // The tint step limits value 0 first.
     assert_eq!(
         run(&[1, 3, 1, 1, 5, 7 * ONE, 4], &[i32::MAX]),
-        Answer::Gray(7.0)
+        moved(Answer::Gray(7.0))
     );
     assert_eq!(
         run(&[1, 3, 4, 1, 5, 7 * ONE, 4], &[i32::MIN]),
-        Answer::Gray(float_of(5))
+        moved(Answer::Gray(float_of(5)))
     );
     // 10 and 11 may end any recipe; 11 reads value 0 as it stands.
     for count in 1..=4 {
         let colour = &[-7 * ONE, 1, 2, 3][..count];
         let input = count as i32;
-        assert_eq!(run(&[input, 10], colour), Answer::NoMark);
-        assert_eq!(run(&[input, 11], colour), Answer::EveryInk(-7.0));
+        assert_eq!(run(&[input, 10], colour), kept(Answer::NoMark));
+        assert_eq!(run(&[input, 11], colour), kept(Answer::EveryInk(-7.0)));
         let limited = [input, 1, 0, 0, ONE, 11];
-        assert_eq!(run(&limited, colour), Answer::EveryInk(0.0));
+        assert_eq!(run(&limited, colour), moved(Answer::EveryInk(0.0)));
     }
     assert_eq!(
         run(&[1, 3, 1, 1, 5, 7 * ONE, 11], &[ONE]),
-        Answer::EveryInk(7.0)
+        kept(Answer::EveryInk(7.0))
     );
     // A white point of 0 or below may stand in a recipe; signed zeros are kept.
     assert_eq!(
         run(&[1, 7, -1, 0, ONE], &[0]),
-        Answer::Xyz([-0.0, 0.0, 0.0])
+        kept(Answer::Xyz([-0.0, 0.0, 0.0]))
     );
     assert_eq!(
         run(&[3, 9, -ONE, 0], &[100 * ONE, 0, 0]),
-        Answer::Xyz([-1.0, 1.0, 0.0])
+        kept(Answer::Xyz([-1.0, 1.0, 0.0]))
     );
 }
 
@@ -153,10 +153,7 @@ fn ill_formed_recipes_are_11() {
         [vec![1, 2, 1, 255], vec![0; 256], vec![4]].concat(),
     ] {
         assert_eq!(run(&words, &[]), NINE, "{words:?}");
-        assert!(!matches!(
-            run(&words, &[0; 4][..words[0] as usize]),
-            Answer::Refused { .. }
-        ));
+        assert!(run(&words, &[0; 4][..words[0] as usize]).is_ok());
     }
 }
 
@@ -173,11 +170,11 @@ fn a_recipe_of_more_than_1045_words_is_11() {
     let mut words = limits(258);
     words.extend([2, 1, 6, 1, 1, 1, 1, 1, 1, 1, 4]);
     assert_eq!(words.len(), 1044);
-    assert_eq!(run(&words, &[0]), Answer::Gray(float_of(1)));
+    assert_eq!(run(&words, &[0]), kept(Answer::Gray(float_of(1))));
     let mut words = limits(258);
     words.extend([2, 1, 7, 1, 1, 1, 1, 1, 1, 1, 1, 4]);
     assert_eq!(words.len(), 1045);
-    assert_eq!(run(&words, &[0]), Answer::Gray(float_of(1)));
+    assert_eq!(run(&words, &[0]), kept(Answer::Gray(float_of(1))));
     let mut words = limits(258);
     words.extend([2, 1, 8, 1, 1, 1, 1, 1, 1, 1, 1, 1, 4]);
     assert_eq!(words.len(), 1046);
@@ -186,7 +183,7 @@ fn a_recipe_of_more_than_1045_words_is_11() {
 }
 
 /// A slow second runner: words taken one at a time, exact fractions in i128. None is 11.
-fn slow(words: &[i32], colour: &[i32]) -> Option<Answer> {
+fn slow(words: &[i32], colour: &[i32]) -> Option<Reply> {
     if words.len() > 1045 {
         return None;
     }
@@ -196,6 +193,8 @@ fn slow(words: &[i32], colour: &[i32]) -> Option<Answer> {
     let mut values: Vec<i128> = colour.iter().map(|v| i128::from(*v)).collect();
     values.resize(4, 0);
     let float = |v: i128| v as f64 / 1_000_000.0;
+    // What was limited, each with the range that it was limited to.
+    let mut limited: Vec<(i128, i128, i128)> = Vec::new();
     let answer = loop {
         let code = queue.next()?;
         match code {
@@ -204,6 +203,7 @@ fn slow(words: &[i32], colour: &[i32]) -> Option<Answer> {
                 if !(0..4).contains(&k) || lo > hi {
                     return None;
                 }
+                limited.push((values[k as usize], lo, hi));
                 values[k as usize] = values[k as usize].max(lo).min(hi);
             }
             2 => {
@@ -211,6 +211,7 @@ fn slow(words: &[i32], colour: &[i32]) -> Option<Answer> {
                 if !(1..5).contains(&m) || !(0..256).contains(&h) {
                     return None;
                 }
+                limited.push((floor_half(values[0], 1_000_000), 0, h));
                 let row = floor_half(values[0], 1_000_000).max(0).min(h);
                 for r in 0..=h {
                     for k in 0..m {
@@ -226,6 +227,7 @@ fn slow(words: &[i32], colour: &[i32]) -> Option<Answer> {
                 if !(1..5).contains(&e) || !(1..5).contains(&m) {
                     return None;
                 }
+                limited.push((values[0], 0, 1_000_000));
                 let x = values[0].clamp(0, 1_000_000);
                 let mut q = x;
                 for _ in 1..e {
@@ -314,7 +316,9 @@ fn slow(words: &[i32], colour: &[i32]) -> Option<Answer> {
     if count != colour.len() as i128 {
         return Some(NINE);
     }
-    Some(answer)
+    let outside = |&(v, lo, hi): &(i128, i128, i128)| v < lo || hi < v;
+    let moved = limited.iter().any(outside);
+    Some(Ok(Colour { answer, moved }))
 }
 
 /// Decode for the slow runner; none for a gamma that is no count of tenths, 1 to 40, in millionths.
@@ -383,7 +387,7 @@ fn random_recipes_run_alike() {
         let colour = random_components(&mut rng, count);
         let reply = run(&words, &colour);
         assert_eq!(reply, slow(&words, &colour).unwrap_or(ELEVEN), "{words:?}");
-        answered += u32::from(!matches!(reply, Answer::Refused { .. }));
+        answered += u32::from(reply.is_ok());
         ill += u32::from(reply == ELEVEN);
         if round % 2 == 0 {
             assert_eq!(reply == NINE, count != words[0] as usize);
@@ -424,7 +428,7 @@ fn random_words_run_alike() {
         let colour = random_components(&mut rng, count);
         let reply = run(&words, &colour);
         assert_eq!(reply, slow(&words, &colour).unwrap_or(ELEVEN), "{words:?}");
-        answered += u32::from(!matches!(reply, Answer::Refused { .. }));
+        answered += u32::from(reply.is_ok());
     }
     assert!(answered > 300, "{answered}");
 }

@@ -8,8 +8,9 @@ use lib.IntN.{ℤ}
 use lib.Dec.{ltb}
 use lib.ListN.{length, drop}
 use borrow.Author.Tests.{ltb-true, ltb-false, ne-eqb, le-leb}
-use Rattle.fixed.specs.Values.{places, given}
-use Rattle.cie.specs.Closings.{closed}
+use Rattle.fixed.specs.Values.{places, started}
+use Rattle.fixed.specs.declared.values.Colour.{Colour}
+use Rattle.cie.specs.Closings.{closedBy}
 use Rattle.page.specs.Outcomes.{accepted}
 use Rattle.page.specs.Validation.{validated}
 use Rattle.page.proofs.WellMade.{well-made-at}
@@ -29,8 +30,8 @@ use Rattle.agreement.specs.Demand.{IsAnswer, Serves, MeetsEight, RecipeS
 use Rattle.agreement.proofs.Spaces.{recipe-replies}
 
 -- the values of a space that is well made have an answer
-answers : (s : Space) → WellMade s → (v : List ℤ) → IsAnswer (valued s v)
-unfolding WellMade valued closed
+answers : (s : Space) → WellMade s → (v : Colour) → IsAnswer (valued s v)
+unfolding WellMade valued closedBy
 answers none w v = absurd w
 answers gray w v = tt
 answers rgb w v = tt
@@ -80,7 +81,7 @@ module _ (page : List ℕ) (number : ℕ) (ok : validated page ≡ accepted) whe
     -- running
     right : (components : List ℤ) → length components ≡ countOf space → IsAnswer (answered space components)
     right components e =
-        subst IsAnswer (answered-as space components (countOf space) refl not-none (given places components) e refl) (answers space whole _)
+        subst IsAnswer (answered-as space components (countOf space) refl not-none (started places components) e refl) (answers space whole _)
 
     served : Serves page number (recipeOf space)
     served =

@@ -9,8 +9,9 @@ use lib.Signed.{ltZ}
 use lib.Dec.{eqb}
 use lib.ListN.{length}
 use borrow.Author.Tests.{ne-eqb}
-use Rattle.fixed.specs.Values.{places, given, rowStep, tintStep}
+use Rattle.fixed.specs.Values.{places, started, rowStep, tintStep}
 use Rattle.cie.specs.Answers.{refusal}
+use Rattle.fixed.specs.declared.values.Colour.{Colour}
 use Rattle.cie.specs.Closings.{closed}
 use Rattle.runner.specs.Runs.{runs, ran}
 use Rattle.runner.proofs.Runs.{count-run, limit-run, tint-run, row-run, device-gray-run, device-rgb-run, device-cmyk-run, gray-run, rgb-run, lab-run, no-mark-run, every-ink-run}
@@ -24,7 +25,7 @@ use Rattle.colour.specs.Colours.{limitedTo, settled, valued, answered}
 -- ---- the limits of the first m components
 
 module _ (n c : ℕ) (s : Space) (ordered : (k : ℕ) → ltZ (highOf s k) (lowOf s k) ≡ false) where
-  limits-run : (m : ℕ) → m ≤ places → (l v : List ℤ) → runs n c (limitsOf s m ++ l) v ≡ runs n c l (limitedTo s m v)
+  limits-run : (m : ℕ) → m ≤ places → (l : List ℤ) (v : Colour) → runs n c (limitsOf s m ++ l) v ≡ runs n c l (limitedTo s m v)
   unfolding limitsOf limitedTo
   limits-run zero h l v = refl
   limits-run (suc m) h l v =
@@ -33,8 +34,8 @@ module _ (n c : ℕ) (s : Space) (ordered : (k : ℕ) → ltZ (highOf s k) (lowO
       ∙ limit-run n c m (lowOf s m) (highOf s m) l (limitedTo s m v) (omega arith) (ordered m))
 
   -- a plain space: its limits, and its closing step
-  ends-run : ((u : List ℤ) → runs n c (closingWords (closingOf s)) u ≡ cond (eqb c n) (closed (closingOf s) u) (refusal 9 0))
-      → (v : List ℤ) → runs n c (endsOf s) v ≡ cond (eqb c n) (settled s v) (refusal 9 0)
+  ends-run : ((u : Colour) → runs n c (closingWords (closingOf s)) u ≡ cond (eqb c n) (closed (closingOf s) u) (refusal 9 0))
+      → (v : Colour) → runs n c (endsOf s) v ≡ cond (eqb c n) (settled s v) (refusal 9 0)
   ends-run close v = limits-run (limitCount s) (limits-high s) (closingWords (closingOf s)) v ∙ close (limitedTo s (limitCount s) v)
 
 -- ---- ranges in order
@@ -69,7 +70,7 @@ count-low (indexed h t s) w = omega arith
 
 -- ---- the steps of a space, from any values on
 
-steps-run : (s : Space) → WellMade s → (n c : ℕ) (v : List ℤ) → runs n c (stepsOf s) v ≡ cond (eqb c n) (valued s v) (refusal 9 0)
+steps-run : (s : Space) → WellMade s → (n c : ℕ) (v : Colour) → runs n c (stepsOf s) v ≡ cond (eqb c n) (valued s v) (refusal 9 0)
 unfolding WellMade stepsOf valued
 steps-run none w n c v = absurd w
 steps-run gray w n c v = ends-run n c gray unit-range (device-gray-run n c) v
@@ -94,4 +95,4 @@ unfolding recipeOf answered
 recipe-replies s w cs =
     let z : countOf s ≡ 0 → ⊥ = omega (arith, count-low s w) in
     count-run (countOf s) (stepsOf s) cs (count-low s w) (count-high s) (recipe-short s w)
-    ∙ simp (ne-eqb (countOf s) 0 z) (steps-run s w (countOf s) (length cs) (given places cs))
+    ∙ simp (ne-eqb (countOf s) 0 z) (steps-run s w (countOf s) (length cs) (started places cs))

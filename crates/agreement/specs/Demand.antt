@@ -18,7 +18,7 @@ use Rattle.runner.specs.Runs.{longest, ran}
 
 -- a reply that is an answer, with its floats, and no refusal
 abbrev pub IsAnswer : Reply → Type 0
-IsAnswer (answer kind floats) = Unit {0}
+IsAnswer (answer kind floats moved) = Unit {0}
 IsAnswer (refusal number block) = ⊥
 
 -- what the recipe of a number on a page does, n being its count of words
@@ -34,7 +34,7 @@ pub record Serves (page : List ℕ) (number : ℕ) (recipe : List ℤ) : Type 0 
   -- "Running is then lent just those n words, unaltered, and a colour: no page and no other storage. For every list of components, of whatever length, its
   -- reply equals the reply to the same list and number on the page as it stood when the recipe was written"
   pub replies : (components : List ℤ) → ran recipe components ≡ evaluated page number components
-  -- "the same answer, every float in every bit": to as many components as the space has, and never a refusal
+  -- "the same answer, every float in every bit", and the same word on whether a limit moved anything (request 2026-07): to as many components as the space has, and never a refusal
   pub right : (components : List ℤ) → length components ≡ countOf (spaceAt page number) → IsAnswer (ran recipe components)
   -- "or 9 on both sides": to any other count of them
   pub wrong : (components : List ℤ) → (length components ≡ countOf (spaceAt page number) → ⊥) → ran recipe components ≡ refusal 9 0

@@ -7,6 +7,7 @@ ghost use Rattle.recipe.specs.SpaceWrites.{meaning as wrote};
 ghost use Rattle.recipe.specs.PageWrites.{writeReply, writeWords};
 use crate::Replies;
 use cie::Answer;
+use cie::Answered;
 use colour::evaluate;
 use recipe::Written;
 use recipe::write;
@@ -38,7 +39,10 @@ pub fn compare_replies(
         }
         Written::Refused { number, block } => Replies {
             written,
-            ran: Answer::Refused { number, block },
+            ran: Answered {
+                answer: Answer::Refused { number, block },
+                moved: false,
+            },
             evaluated,
         },
     }

@@ -1,13 +1,13 @@
 // FORMAT.md, The recipe and the page: a recipe, once written, replies to every colour what the page replies.
 mod compare;
 
-use cie::Answer;
+use cie::Answered;
 pub use compare::compare_replies;
 use recipe::Written;
 
 // What writing a recipe, running it and evaluating on the page reply.
 pub struct Replies {
     pub written: Written,
-    pub ran: Answer,
-    pub evaluated: Answer,
+    pub ran: Answered,
+    pub evaluated: Answered,
 }

@@ -1,9 +1,11 @@
 -- FORMAT.md, Colour steps and Recipes: the closing steps, from values, which they read as they stand, to a reply. Evaluating a colour and running a recipe both
 -- end here.
+use mathlib.Core.Bool.{Bool}
 use mathlib.Core.List.{List, [], _∷_}
 use lib.IntN.{ℤ}
 use Rattle.fixed.specs.Numbers.{float}
 use Rattle.fixed.specs.Values.{value}
+use Rattle.fixed.specs.declared.values.Colour.{Colour}
 use Rattle.cie.specs.declared.Xyz.{Xyz}
 use Rattle.cie.specs.declared.GrayClosing.{GrayClosing}
 use Rattle.cie.specs.declared.RgbClosing.{RgbClosing}
@@ -29,17 +31,21 @@ abbrev pub calLabOf : LabClosing → ℤ → ℤ → ℤ → Xyz
 calLabOf k l a b = labXyz (whiteOf (k .xw) (k .zw)) l a b
 
 -- the floats of an X, Y and Z
-abbrev pub inThree : Xyz → Reply
-inThree p = answer inXyz (p .x ∷ p .y ∷ p .z ∷ [])
+abbrev pub inThree : Xyz → Bool → Reply
+inThree p m = answer inXyz (p .x ∷ p .y ∷ p .z ∷ []) m
 
--- what the values reply; a number that is no space's has refusal 8
-unfoldable pub closed : Closing → List ℤ → Reply
-closed Nothing v = refusal 8 0
-closed Gray v = answer inGray (float (value v 0) ∷ [])
-closed Rgb v = answer inRgb (float (value v 0) ∷ float (value v 1) ∷ float (value v 2) ∷ [])
-closed Cmyk v = answer inCmyk (float (value v 0) ∷ float (value v 1) ∷ float (value v 2) ∷ float (value v 3) ∷ [])
-closed (CalGray k) v = inThree (calGrayOf k (value v 0))
-closed (CalRgb k) v = inThree (calRgbOf k (value v 0) (value v 1) (value v 2))
-closed (Lab k) v = inThree (calLabOf k (value v 0) (value v 1) (value v 2))
-closed NoMark v = answer noMark []
-closed EveryInk v = answer everyInk (float (value v 0) ∷ [])
+-- what values v reply, where m says whether anything has moved; a number that is no space's has refusal 8
+unfoldable pub closedBy : Closing → List ℤ → Bool → Reply
+closedBy Nothing v m = refusal 8 0
+closedBy Gray v m = answer inGray (float (value v 0) ∷ []) m
+closedBy Rgb v m = answer inRgb (float (value v 0) ∷ float (value v 1) ∷ float (value v 2) ∷ []) m
+closedBy Cmyk v m = answer inCmyk (float (value v 0) ∷ float (value v 1) ∷ float (value v 2) ∷ float (value v 3) ∷ []) m
+closedBy (CalGray k) v m = inThree (calGrayOf k (value v 0)) m
+closedBy (CalRgb k) v m = inThree (calRgbOf k (value v 0) (value v 1) (value v 2)) m
+closedBy (Lab k) v m = inThree (calLabOf k (value v 0) (value v 1) (value v 2)) m
+closedBy NoMark v m = answer noMark [] m
+closedBy EveryInk v m = answer everyInk (float (value v 0) ∷ []) m
+
+-- what a colour replies at its closing step, which limits nothing and hands the flag on
+abbrev pub closed : Closing → Colour → Reply
+closed k c = closedBy k (c .values) (c .moved)

@@ -1,8 +1,9 @@
 // The closing steps: from the values, as they stand, to an answer.
 ghost use mathlib.Core.Path.{_≡_};
 ghost use mathlib.Core.List.{[], _∷_};
-ghost use Rattle.cie.specs.Answers.{meaning};
-ghost use Rattle.cie.specs.Closings.{calGrayOf, calRgbOf, calLabOf, closed};
+ghost use mathlib.Core.Bool.{Bool};
+ghost use Rattle.cie.specs.Answers.{said};
+ghost use Rattle.cie.specs.Closings.{calGrayOf, calRgbOf, calLabOf, closedBy};
 use crate::Answer;
 use crate::Closing;
 use crate::GrayClosing;
@@ -36,9 +37,9 @@ fn close_lab(k: LabClosing, l: i32, a: i32, b: i32) -> Xyz
     lab(white(k.xw, k.zw), l, a, b)
 }
 
-// What the values a, b, c and d answer: a closing step reads no more than four. They are not limited here.
+// What the values a, b, c and d answer: a closing step reads no more than four. They are not limited here, so nothing moves.
 pub fn close(k: Closing, a: i32, b: i32, c: i32, d: i32) -> Answer
-    ensures { λ r. ⌜ meaning r ≡ closed k (a ∷ b ∷ c ∷ d ∷ []) ⌝ }
+    ensures { λ r. ⌜ ((m : Bool) → said r m ≡ closedBy k (a ∷ b ∷ c ∷ d ∷ []) m) ⌝ }
 {
     match k {
         Closing::Nothing => Answer::Refused {

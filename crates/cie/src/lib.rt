@@ -33,6 +33,12 @@ pub enum Answer {
     Refused { number: u32, block: u32 },
 }
 
+// An answer, and whether a limit moved anything on the way to it. Beside a refusal that says nothing.
+pub struct Answered {
+    pub answer: Answer,
+    pub moved: bool,
+}
+
 // The numbers of CalGray's closing step: X and Z of the white point, and the gamma.
 pub struct GrayClosing {
     pub xw: i32,

@@ -5,7 +5,8 @@ use Prim.Native.Nat.{ℕ}
 use lib.IntN.{ℤ}
 use lib.ListN.{length, take}
 use borrow.Author.Tests.{eq-eqb, ne-eqb}
-use Rattle.fixed.specs.Values.{places, given, tintStep}
+use Rattle.fixed.specs.Values.{places, started, tintStep}
+use Rattle.fixed.specs.declared.values.Colour.{Colour}
 use Rattle.cie.specs.declared.Closing.{Closing}
 use Rattle.cie.specs.declared.Closing.the-variants.{Nothing, Gray, Rgb, Cmyk, CalGray, CalRgb, Lab, NoMark, EveryInk}
 use Rattle.cie.specs.Answers.{refusal}
@@ -25,7 +26,7 @@ use Rattle.colour.specs.Evaluating.{evaluated}
 use Rattle.colour.proofs.Steps.{tint-first}
 
 -- a plain space's values are limited, and then its closing step
-settles : (c : Closing) (q : Ranges) (v : List ℤ) → closed c (limitedTo (plainIn c q) (limitCount (plainIn c q)) v) ≡ valued (plainIn c q) v
+settles : (c : Closing) (q : Ranges) (v : Colour) → closed c (limitedTo (plainIn c q) (limitCount (plainIn c q)) v) ≡ valued (plainIn c q) v
 unfolding valued
 settles Nothing q v = refl
 settles Gray q v = refl
@@ -37,8 +38,8 @@ settles (Lab k) q v = refl
 settles NoMark q v = refl
 settles EveryInk q v = refl
 
--- what the code makes of a level l and the values v: values u, of the space s within or for the closing step
-module _ (page : List ℕ) {l : Level} {u : List ℤ} (v : List ℤ) where
+-- what the code makes of a level l and the colour v: the colour u, of the space s within or for the closing step
+module _ (page : List ℕ) {l : Level} {u : Colour} (v : Colour) where
   pub value-plain : (c : Closing) (q : Ranges) {m : ℕ} → l ≡ Plain c q → m ≡ limitCount (plainIn c q) → u ≡ limitedTo (plainIn c q) m v → closed c u ≡ valued (spaceIn page l) v
   unfolding spaceIn
   value-plain c q el em eu =
@@ -70,7 +71,7 @@ module _ (s : Space) (cs : List ℤ) (m : ℕ) (e : m ≡ countOf s) where
     unfolding answered
     answered-9 l = simp (ne-eqb (countOf s) 0 (λ h. z (e ∙ h)), ne-eqb (length cs) (countOf s) (λ h. l (h ∙ sym e)))
 
-    pub answered-as : (u : List ℤ) → length cs ≡ m → u ≡ given places cs → valued s u ≡ answered s cs
+    pub answered-as : (u : Colour) → length cs ≡ m → u ≡ started places cs → valued s u ≡ answered s cs
     unfolding answered
     answered-as u l g = ap (valued s) g ∙ simp (ne-eqb (countOf s) 0 (λ h. z (e ∙ h)), eq-eqb (length cs) (countOf s) (l ∙ e))
 

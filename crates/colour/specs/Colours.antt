@@ -5,22 +5,23 @@ use mathlib.Core.List.{List}
 use lib.IntN.{ℤ}
 use lib.Dec.{eqb}
 use lib.ListN.{length}
-use Rattle.fixed.specs.Values.{places, given, limitStep, rowStep, tintStep}
+use Rattle.fixed.specs.Values.{places, started, limitStep, rowStep, tintStep}
+use Rattle.fixed.specs.declared.values.Colour.{Colour}
 use Rattle.cie.specs.Answers.{Reply, refusal}
 use Rattle.cie.specs.Closings.{closed}
 use Rattle.space.specs.Spaces.{Space, none, gray, rgb, cmyk, calGray, calRgb, lab, noMark, everyInk, separation, indexed, countOf, limitCount, lowOf, highOf, closingOf}
 
 -- the first m values, each limited to its range
-unfoldable pub limitedTo : Space → ℕ → List ℤ → List ℤ
+unfoldable pub limitedTo : Space → ℕ → Colour → Colour
 limitedTo s zero v = v
 limitedTo s (suc m) v = limitStep m (lowOf s m) (highOf s m) (limitedTo s m v)
 
 -- a plain space: its components limited, but that of a Separation named None, then its closing step
-abbrev pub settled : Space → List ℤ → Reply
+abbrev pub settled : Space → Colour → Reply
 settled s v = closed (closingOf s) (limitedTo s (limitCount s) v)
 
--- what the values reply in a space
-unfoldable pub valued : Space → List ℤ → Reply
+-- what a colour on its way replies in a space
+unfoldable pub valued : Space → Colour → Reply
 valued none v = settled none v
 valued gray v = settled gray v
 valued rgb v = settled rgb v
@@ -37,4 +38,4 @@ valued (indexed h t s) v = valued s (rowStep (countOf s) h t v)
 unfoldable pub answered : Space → List ℤ → Reply
 answered s cs =
     cond (eqb (countOf s) 0) (refusal 8 0)
-    (cond (eqb (length cs) (countOf s)) (valued s (given places cs)) (refusal 9 0))
+    (cond (eqb (length cs) (countOf s)) (valued s (started places cs)) (refusal 9 0))

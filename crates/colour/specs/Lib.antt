@@ -1,2 +1,3 @@
 pub mod Colours
 pub mod Evaluating
+pub mod Moves

@@ -1,6 +1,6 @@
 // What a colour of a space on a page answers.
 ghost use mathlib.Core.Path.{_≡_};
-ghost use Rattle.cie.specs.Answers.{meaning};
+ghost use Rattle.cie.specs.Answers.{meaning, refusal};
 ghost use Rattle.space.specs.Pages.{spaceAt};
 ghost use Rattle.space.specs.Levels.{spaceIn};
 ghost use Rattle.colour.specs.Colours.{valued, answered};
@@ -8,8 +8,9 @@ use crate::values::limit_all;
 use crate::values::pick_row;
 use crate::values::tint;
 use cie::Answer;
+use cie::Answered;
 use cie::close;
-use fixed::VALUES;
+use fixed::Colour;
 use fixed::start;
 use space::Level;
 use space::count;
@@ -20,14 +21,17 @@ use space::plain_highs;
 use space::plain_lows;
 use space::tinted_at;
 
-// What the values answer in a level's space. It calls itself on the level within, whose rank is lower.
-fn value_in(page: &[u8], l: Level, v: [i32; VALUES]) -> Answer
+// What a colour on its way answers in a level's space. It calls itself on the level within, whose rank is lower.
+fn value_in(page: &[u8], l: Level, v: Colour) -> Answered
     ensures { λ r. ⌜ meaning r ≡ valued (spaceIn (now (page .entry)) l) v ⌝ }
 {
     match l {
         Level::Plain(c, q) => {
             let u = limit_all(limit_count(c), plain_lows(c, q), plain_highs(c, q), v);
-            close(c, u[0], u[1], u[2], u[3])
+            let moved = u.moved;
+            let w = u.values;
+            let answer = close(c, w[0], w[1], w[2], w[3]);
+            Answered { answer, moved }
         }
         Level::Separation(p) => {
             let s = plain_at(page, p.alternate);
@@ -40,23 +44,27 @@ fn value_in(page: &[u8], l: Level, v: [i32; VALUES]) -> Answer
     }
 }
 
+// A refusal that is about no block.
+fn refused(number: u32) -> Answered
+    ensures { λ r. ⌜ meaning r ≡ refusal number 0 ⌝ }
+{
+    Answered {
+        answer: Answer::Refused { number, block: 0 },
+        moved: false,
+    }
+}
+
 // A colour of the space at a number of a page: 8 where there is no space, then 9 for a wrong count of components.
-pub fn evaluate_space(page: &[u8], n: u32, components: &[i32]) -> Answer
+pub fn evaluate_space(page: &[u8], n: u32, components: &[i32]) -> Answered
     ensures { λ r. ⌜ meaning r ≡ answered (spaceAt (now (page .entry)) n) (now (components .entry)) ⌝ }
 {
     let l = level_at(page, n);
     let m = count(l) as usize;
     if m == 0 {
-        return Answer::Refused {
-            number: 8,
-            block: 0,
-        };
+        return refused(8);
     }
     if components.len() != m {
-        return Answer::Refused {
-            number: 9,
-            block: 0,
-        };
+        return refused(9);
     }
     value_in(page, l, start(components))
 }

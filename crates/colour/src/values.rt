@@ -1,4 +1,4 @@
-// The steps on values that a space asks for: its components limited, a row of its palette, its tint.
+// The steps on a colour that a space asks for: its components limited, a row of its palette, its tint.
 ghost use mathlib.Core.Path.{_≡_};
 ghost use Prim.Native.Nat.{_+_, _*_, _≤_};
 ghost use Rattle.fixed.specs.Numbers.{tintValue};
@@ -8,7 +8,10 @@ ghost use Rattle.space.specs.Spaces.{Space};
 ghost use Rattle.space.specs.Pages.{entries, entryOf, rowAt};
 ghost use Rattle.space.specs.Levels.{spaceIn, Ends, Ranged};
 ghost use Rattle.colour.specs.Colours.{limitedTo};
+use fixed::Colour;
 use fixed::VALUES;
+use fixed::is_index_outside;
+use fixed::is_outside;
 use fixed::limit;
 use fixed::round_index;
 use fixed::tint_power;
@@ -23,18 +26,22 @@ use space::highs;
 use space::lows;
 
 // The first m values, each limited to its range, from lo to hi.
-pub fn limit_all(m: u32, lo: [i32; VALUES], hi: [i32; VALUES], v: [i32; VALUES]) -> [i32; VALUES]
+pub fn limit_all(m: u32, lo: [i32; VALUES], hi: [i32; VALUES], c: Colour) -> Colour
     requires { ⌜ m ≤ places ⌝ }
-    ensures { λ r. ⌜ ((s : Space) → Ends s lo hi → r ≡ limitedTo s m v) ⌝ }
+    ensures { λ r. ⌜ ((s : Space) → Ends s lo hi → r ≡ limitedTo s m c) ⌝ }
 {
-    let mut u = v;
+    let mut moved = c.moved;
+    let mut u = c.values;
     let mut k: usize = 0;
     while k < m as usize {
-        let near = limit(u[k], lo[k], hi[k]);
+        let v = u[k];
+        let near = limit(v, lo[k], hi[k]);
+        let out = is_outside(v, lo[k], hi[k]);
         u[k] = near;
+        moved = moved | out;
         k += 1;
     }
-    u
+    Colour { values: u, moved }
 }
 
 // The m entries from `at` on of the table of the Indexed block n, over a space of m components, whose ranges are from lo to hi.
@@ -62,12 +69,19 @@ fn fill_row(
 }
 
 // The row of the palette of the Indexed block n that value 0 picks: a colour of its base s.
-pub fn pick_row(page: &[u8], n: u16, hival: u16, s: Level, v: [i32; VALUES]) -> [i32; VALUES]
-    ensures { λ r. ⌜ r ≡ rowAt (now (page .entry)) n hival (spaceIn (now (page .entry)) s) v ⌝ }
+pub fn pick_row(page: &[u8], n: u16, hival: u16, s: Level, c: Colour) -> Colour
+    ensures { λ r. ⌜ r ≡ rowAt (now (page .entry)) n hival (spaceIn (now (page .entry)) s) c ⌝ }
 {
+    let moved = c.moved;
+    let v = c.values;
+    let x = v[0];
     let m = count(s);
-    let i = round_index(v[0], hival as u32);
-    fill_row(page, n, m, lows(s), highs(s), i * m, v)
+    let i = round_index(x, hival as u32);
+    let u = fill_row(page, n, m, lows(s), highs(s), i * m, v);
+    Colour {
+        values: u,
+        moved: moved | is_index_outside(x, hival as u32),
+    }
 }
 
 // The first m components of the alternate space, q millionths of the way from C0 to C1.
@@ -86,12 +100,19 @@ fn fill_tint(c0: [i32; 4], c1: [i32; 4], m: u32, q: u32, v: [i32; VALUES]) -> [i
 }
 
 // What value 0 tints: a colour of the alternate space, of m components, not limited yet.
-pub fn tint(p: Separation, m: u32, v: [i32; VALUES]) -> [i32; VALUES]
+pub fn tint(p: Separation, m: u32, c: Colour) -> Colour
     requires { ⌜ m ≤ places ⌝ }
-    ensures { λ r. ⌜ r ≡ tintStep (p .exponent) m (entriesOf (p .c0)) (entriesOf (p .c1)) v ⌝ }
+    ensures { λ r. ⌜ r ≡ tintStep (p .exponent) m (entriesOf (p .c0)) (entriesOf (p .c1)) c ⌝ }
 {
+    let moved = c.moved;
+    let v = c.values;
+    let t = v[0];
     let c0 = p.c0;
     let c1 = p.c1;
-    let q = tint_power(unit_part(v[0]), p.exponent as u32);
-    fill_tint(entries_of(c0), entries_of(c1), m, q, v)
+    let q = tint_power(unit_part(t), p.exponent as u32);
+    let u = fill_tint(entries_of(c0), entries_of(c1), m, q, v);
+    Colour {
+        values: u,
+        moved: moved | is_outside(t, 0, 1000000),
+    }
 }

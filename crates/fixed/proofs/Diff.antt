@@ -1,10 +1,11 @@
 -- `Diff z a b` says z = a − b, for naturals a and b, as an equation of naturals, which omega reads.
 -- `up z` and `down z` are z's parts above and below 0: z = up z − down z, and one of them is 0.
-use mathlib.Core.Path.{_≡_, refl, sym, ap}
+use mathlib.Core.Path.{_≡_, refl, sym, ap, _∙_}
 use mathlib.Core.Bool.{Bool, true, false, not, cond}
 use Prim.Native.Nat.{ℕ, zero, suc, _+_, _*_, _-_, _/_, _%_, _<_, _≤_, _^_, zero-le}
 use native.Mathlib.Nat as NatL
 use native.Mathlib.Nat.{lt-of-le-of-lt}
+use native.Mathlib.Decide.{decLt}
 use native.Mathlib.Omega.{arith}
 use lib.Dec.{T, ltb, ltb→lt, nltb→le}
 use borrow.Author.Tests.{ltb-true, ltb-false, lt-ltb, le-ltb}
@@ -23,11 +24,11 @@ abbrev pub down : ℤ → ℕ
 down (pos n) = 0
 down (negsuc n) = suc n
 
-no : true ≡ false → ⊥
-no t = let z : _≡_ {A = ℕ} 0 1 = cc in omega arith
+never : true ≡ false → ⊥
+never t = let z : _≡_ {A = ℕ} 0 1 = cc in omega arith
 
-no-f : false ≡ true → ⊥
-no-f t = no (sym t)
+never-f : false ≡ true → ⊥
+never-f t = never (sym t)
 
 pub record Diff (z : ℤ) (a b : ℕ) : Type 0 where
   pub eq : a + down z ≡ b + up z
@@ -80,14 +81,14 @@ scale k {z = negsuc n} {a} {b} h = shift (neg (of-pos (k * suc n))) (omega (arit
 -- the order
 pub lt-true : {y z : ℤ} {a b c d : ℕ} → Diff y a b → Diff z c d → ltZ y z ≡ true → a + d < c + b
 lt-true {y = pos k} {z = pos l} h g t = omega (arith, ltb-true k l t)
-lt-true {y = pos k} {z = negsuc l} h g t = absurd (no-f t)
+lt-true {y = pos k} {z = negsuc l} h g t = absurd (never-f t)
 lt-true {y = negsuc k} {z = pos l} h g t = omega arith
 lt-true {y = negsuc k} {z = negsuc l} h g t = omega (arith, ltb-true l k t)
 
 pub lt-false : {y z : ℤ} {a b c d : ℕ} → Diff y a b → Diff z c d → ltZ y z ≡ false → c + b ≤ a + d
 lt-false {y = pos k} {z = pos l} h g t = omega (arith, ltb-false k l t)
 lt-false {y = pos k} {z = negsuc l} h g t = omega arith
-lt-false {y = negsuc k} {z = pos l} h g t = absurd (no t)
+lt-false {y = negsuc k} {z = pos l} h g t = absurd (never t)
 lt-false {y = negsuc k} {z = negsuc l} h g t = omega (arith, ltb-false l k t)
 
 pub lt-yes : {y z : ℤ} {a b c d : ℕ} → Diff y a b → Diff z c d → a + d < c + b → ltZ y z ≡ true
@@ -101,6 +102,14 @@ lt-no {y = pos k} {z = pos l} h g e = le-ltb k l (omega arith)
 lt-no {y = pos k} {z = negsuc l} h g e = refl
 lt-no {y = negsuc k} {z = pos l} h g e = absurd (omega arith)
 lt-no {y = negsuc k} {z = negsuc l} h g e = le-ltb l k (omega arith)
+
+-- the test on numbers is the test on the pairs: p and q are its two sides
+pub lt-same : {y z : ℤ} {a b c d : ℕ} → Diff y a b → Diff z c d → (p q : ℕ) → p ≡ a + d → q ≡ c + b → ltb p q ≡ ltZ y z
+lt-same {y} {z} {a} {b} {c} {d} h g p q ep eq = by-cases (decLt p q)
+  where
+    by-cases : Dec (p < q) → ltb p q ≡ ltZ y z
+    by-cases (yes l) = lt-ltb p q l ∙ sym (lt-yes h g (omega arith))
+    by-cases (no l) = le-ltb p q (omega arith) ∙ sym (lt-no h g (omega arith))
 
 -- the range of a width
 pub fits-at : {w : Width} {z : ℤ} {a b : ℕ} → Diff z a b → a < b + 2 ^ hbits w → b ≤ a + 2 ^ hbits w → SFits w z

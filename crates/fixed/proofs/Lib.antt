@@ -6,6 +6,7 @@ pub mod Round
 pub mod Twos
 pub mod Floors
 pub mod Powers
+pub mod Steps
 pub mod Stores
 pub mod Decide
 pub mod Scans

@@ -1,5 +1,5 @@
 -- FORMAT.md, Numbers, and the whole-number parts of Colour steps. A number is a count of millionths.
-use mathlib.Core.Bool.{Bool, false, cond, _&&_}
+use mathlib.Core.Bool.{Bool, false, cond, _&&_, _||_}
 use Prim.Native.Nat.{ℕ, zero, suc, _+_, _*_, _/_, _%_}
 use lib.IntN.{ℤ, pos, negsuc, _+ℤ_, _-ℤ_, _*ℤ_}
 use lib.Ieee.{Float, binary64, div, ofInt, ofBits}
@@ -17,6 +17,10 @@ float v = div binary64 (ofInt binary64 v) million
 -- the nearest to v in lo..hi
 unfoldable pub limited : ℤ → ℤ → ℤ → ℤ
 limited lo hi v = cond (ltZ v lo) lo (cond (ltZ hi v) hi v)
+
+-- whether limiting v to lo..hi moves it: it lies outside
+unfoldable pub outside : ℤ → ℤ → ℤ → Bool
+outside lo hi v = ltZ v lo || ltZ hi v
 
 -- the floor of z / m: that of -(n + 1) / m is -(n / m + 1)
 abbrev pub floorDiv : ℤ → ℕ → ℤ
@@ -42,6 +46,10 @@ paletteValue v lo hi = lo +ℤ floorDiv (pos v *ℤ (hi -ℤ lo) +ℤ pos 127) 2
 -- an index: v rounded half up to an integer, then taken to the nearest in 0..hival
 abbrev pub roundIndex : ℤ → ℕ → ℤ
 roundIndex v hival = limited (pos 0) (pos hival) (halfUp v 1000000)
+
+-- whether limiting it to 0..hival moves the integer; rounding alone moves nothing
+unfoldable pub indexOutside : ℤ → ℕ → Bool
+indexOutside v hival = outside (pos 0) (pos hival) (halfUp v 1000000)
 
 -- a tint x of 0..1000000 to an exponent: q = x; each further unit makes q the half-up rounding of q x / 1000000
 unfoldable pub tintPower : ℕ → ℕ → ℕ

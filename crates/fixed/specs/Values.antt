@@ -1,9 +1,12 @@
--- FORMAT.md, Colour steps and Recipes: the steps of a colour on its values, a list of numbers in millionths, of any length.
+-- FORMAT.md, Colour steps and Recipes: the steps of a colour. A colour on its way is its values, a list of numbers in millionths of any length, and whether a
+-- limit has moved anything so far.
 use Prim.Native.Nat.{ℕ, zero, suc, _+_, _*_}
+use mathlib.Core.Bool.{false, _||_}
 use mathlib.Core.List.{List, [], _∷_, _++_}
 use lib.IntN.{ℤ, pos, negsuc, natAbs}
 use lib.ListN.{getD, set}
-use Rattle.fixed.specs.Numbers.{limited, roundIndex, tintPower, tintValue}
+use Rattle.fixed.specs.Numbers.{limited, outside, roundIndex, indexOutside, tintPower, tintValue}
+use Rattle.fixed.specs.declared.values.Colour.{Colour}
 
 -- how many values there are
 abbrev pub places : ℕ
@@ -32,22 +35,44 @@ filled f (suc m) v = set (filled f m v) m (f m)
 abbrev pub given : ℕ → List ℤ → List ℤ
 given n cs = listed (value cs) n
 
--- value k limited to lo..hi
-unfoldable pub limitStep : ℕ → ℤ → ℤ → List ℤ → List ℤ
-limitStep k lo hi v = set v k (limited lo hi (value v k))
+-- what a colour starts with: n values, and nothing has moved
+abbrev pub started : ℕ → List ℤ → Colour
+started n cs = record { values = given n cs; moved = false }
+
+-- ---- a limit
+
+-- the values, value k limited to lo..hi
+unfoldable pub limitedAt : ℕ → ℤ → ℤ → List ℤ → List ℤ
+limitedAt k lo hi v = set v k (limited lo hi (value v k))
+
+-- the step: it moves the colour where value k lies outside
+unfoldable pub limitStep : ℕ → ℤ → ℤ → Colour → Colour
+limitStep k lo hi c = record { values = limitedAt k lo hi (c .values); moved = c .moved || outside lo hi (value (c .values) k) }
+
+-- ---- a row of a table
 
 -- the row that x picks of rows 0..h: x rounded half up, then taken to the nearest of them
 unfoldable pub indexOf : ℤ → ℕ → ℕ
 indexOf x h = natAbs (roundIndex x h)
 
 -- value 0 picks a row of the table t, whose m entries replace the first m values
-unfoldable pub rowStep : ℕ → ℕ → List ℤ → List ℤ → List ℤ
-rowStep m h t v = filled (λ k. value t (indexOf (value v 0) h * m + k)) m v
+unfoldable pub rowFrom : ℕ → ℕ → List ℤ → List ℤ → List ℤ
+rowFrom m h t v = filled (λ k. value t (indexOf (value v 0) h * m + k)) m v
+
+-- the step: it moves the colour where value 0, rounded, is no row
+unfoldable pub rowStep : ℕ → ℕ → List ℤ → Colour → Colour
+rowStep m h t c = record { values = rowFrom m h t (c .values); moved = c .moved || indexOutside (value (c .values) 0) h }
+
+-- ---- a tint
 
 -- the tint x, limited to 0..1, to the exponent e
 unfoldable pub tintOf : ℤ → ℕ → ℕ
 tintOf x e = tintPower (natAbs (limited (pos 0) (pos 1000000) x)) e
 
 -- value 0 is the tint, and m components of the alternate space replace the first m values
-unfoldable pub tintStep : ℕ → ℕ → List ℤ → List ℤ → List ℤ → List ℤ
-tintStep e m c₀ c₁ v = filled (λ k. tintValue (value c₀ k) (value c₁ k) (tintOf (value v 0) e)) m v
+unfoldable pub tintedBy : ℕ → ℕ → List ℤ → List ℤ → List ℤ → List ℤ
+tintedBy e m c₀ c₁ v = filled (λ k. tintValue (value c₀ k) (value c₁ k) (tintOf (value v 0) e)) m v
+
+-- the step: it moves the colour where value 0 lies outside 0..1
+unfoldable pub tintStep : ℕ → ℕ → List ℤ → List ℤ → Colour → Colour
+tintStep e m c₀ c₁ c = record { values = tintedBy e m c₀ c₁ (c .values); moved = c .moved || outside (pos 0) (pos 1000000) (value (c .values) 0) }

@@ -2,7 +2,7 @@
 ghost use mathlib.Core.Path.{_≡_};
 ghost use Prim.Native.Nat.{_≤_};
 ghost use lib.IntN.{pos, natAbs};
-ghost use Rattle.fixed.specs.Numbers.{limited, exponentSupported, gammaSupported};
+ghost use Rattle.fixed.specs.Numbers.{limited, outside, exponentSupported, gammaSupported};
 use crate::TENTHS;
 
 // The nearest to v in lo..hi.
@@ -16,6 +16,13 @@ pub fn limit(v: i32, lo: i32, hi: i32) -> i32
         return hi;
     }
     v
+}
+
+// Whether limiting v to lo..hi moves it.
+pub fn is_outside(v: i32, lo: i32, hi: i32) -> bool
+    ensures { λ r. ⌜ r ≡ outside lo hi v ⌝ }
+{
+    (v < lo) | (hi < v)
 }
 
 // v limited to 0..1, which is not negative: a tint.

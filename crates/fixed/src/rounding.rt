@@ -4,7 +4,7 @@
 ghost use mathlib.Core.Path.{_≡_};
 ghost use lib.IntN.{pos, subℕ};
 ghost use Prim.Native.Nat.{_<_, _≤_, _^_};
-ghost use Rattle.fixed.specs.Numbers.{partWay, paletteValue, tintPower, tintValue, roundIndex};
+ghost use Rattle.fixed.specs.Numbers.{partWay, paletteValue, tintPower, tintValue, roundIndex, indexOutside};
 use crate::table::OVER_ONE;
 
 // v + 2^31.
@@ -76,6 +76,14 @@ pub fn tint_value(c0: i32, c1: i32, q: u32) -> i32
     ensures { λ r. ⌜ r ≡ tintValue c0 c1 q ⌝ }
 {
     part_way(c0, c1, q as u64, 1000000)
+}
+
+// Whether v millionths, rounded half up to a whole number, lie outside 0..hival. The number is raised by 2148, so that it is never negative.
+pub fn is_index_outside(v: i32, hival: u32) -> bool
+    ensures { λ r. ⌜ r ≡ indexOutside v hival ⌝ }
+{
+    let n = (raised(v) + 1016352) / 1000000;
+    (n < 2148) | (hival as u64 + 2148 < n)
 }
 
 // v millionths to the nearest whole number, up at a half, and then the nearest to that in 0..hival.

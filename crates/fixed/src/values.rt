@@ -1,7 +1,15 @@
 // Lists of numbers, read anywhere: what is past the end is 0; and the values that a colour starts with.
 ghost use mathlib.Core.Path.{_≡_};
-ghost use Rattle.fixed.specs.Values.{places, value, smallOf, given};
+ghost use Rattle.fixed.specs.Values.{places, value, smallOf, started};
 use crate::VALUES;
+
+// A colour on its way from its components to an answer.
+pub struct Colour {
+    // Its values; at the start the components, and 0 where none is given.
+    pub values: [i32; VALUES],
+    // Whether a limit has moved anything so far.
+    pub moved: bool,
+}
 
 // Number k of a list, 0 where there is none.
 pub fn value_at(l: &[i32], k: usize) -> i32
@@ -27,9 +35,9 @@ pub fn small_at(l: &[i32], k: usize) -> u32
     small(value_at(l, k))
 }
 
-// The values that a colour starts with: its components, and 0 where none is given.
-pub fn start(components: &[i32]) -> [i32; VALUES]
-    ensures { λ r. ⌜ r ≡ given places (now (components .entry)) ⌝ }
+// What a colour starts with: its components, 0 where none is given, and nothing has moved.
+pub fn start(components: &[i32]) -> Colour
+    ensures { λ r. ⌜ r ≡ started places (now (components .entry)) ⌝ }
 {
     let mut v = [0; VALUES];
     let mut k: usize = 0;
@@ -38,5 +46,8 @@ pub fn start(components: &[i32]) -> [i32; VALUES]
         v[k] = x;
         k += 1;
     }
-    v
+    Colour {
+        values: v,
+        moved: false,
+    }
 }

@@ -1,6 +1,6 @@
 -- White is white, tints are close: the statement of specs/Closeness.antt, from the laws of cie on 1.0 and of fixed on roundings.
 use mathlib.Core.Path.{_≡_, refl, sym, ap, _∙_, subst}
-use mathlib.Core.Bool.{true}
+use mathlib.Core.Bool.{true, false}
 use mathlib.Core.List.{List, [], _∷_}
 use Prim.Native.Nat.{ℕ, zero, suc, _+_, _*_, _^_, _≤_, _<_}
 use native.Mathlib.Nat.{pow-suc}
@@ -10,16 +10,18 @@ use lib.Dec.{leb, leb→le}
 use lib.IntN.{ℤ, pos, negsuc, natAbs}
 use lib.Ieee.{Float}
 use lib.ListN.{length}
-use Rattle.fixed.specs.Numbers.{float, limited, exponentSupported, tintPower, tintValue}
-use Rattle.fixed.specs.Values.{places, value, listed, given, limitStep, tintOf, tintStep}
+use Rattle.fixed.specs.Numbers.{float, limited, exponentSupported, tintPower, tintValue, outside}
+use Rattle.fixed.specs.Values.{places, value, listed, started, limitedAt, limitStep, tintOf, tintStep}
+use Rattle.fixed.specs.declared.values.Colour.{Colour}
 use Rattle.fixed.proofs.Decide.{and-left, and-right}
 use Rattle.fixed.proofs.Diff.{of-pos, add, sub, scale}
 use Rattle.fixed.proofs.Errors.{Close, tint-near}
 use Rattle.fixed.proofs.Floors.{limited-inside, le-yes}
 use Rattle.fixed.proofs.Listed.{listed-length, limited-within}
 use Rattle.cie.specs.declared.GrayClosing.{GrayClosing}
+use Rattle.cie.specs.declared.Xyz.{Xyz}
 use Rattle.cie.specs.Answers.{answer, inXyz}
-use Rattle.cie.specs.Closings.{calGrayOf, inThree, closed}
+use Rattle.cie.specs.Closings.{calGrayOf, inThree, closedBy}
 use Rattle.cie.proofs.Facts.{one-float, gray-white}
 use Rattle.space.specs.Spaces.{Space, calGray, separation, countOf}
 use Rattle.space.specs.Pages.{spaceAt}
@@ -41,15 +43,19 @@ use Rattle.paper.proofs.Tints.{tinted}
 on-page : (page : List ℕ) (n : ℕ) (s : Space) → validated page ≡ accepted → spaceAt page n ≡ s → (cs : List ℤ) → evaluated page n cs ≡ answered s cs
 on-page page n s ok e cs = sym (page-accepted page n cs (sym ok)) ∙ ap (λ (t : Space). answered t cs) e
 
-gray-colour : (k : GrayClosing) (a : ℤ) → answered (calGray k) (a ∷ []) ≡ inThree (calGrayOf k (limited (pos 0) (pos 1000000) a))
-unfolding answered valued closed limitedTo limitStep listed
+gray-colour : (k : GrayClosing) (a : ℤ) → answered (calGray k) (a ∷ []) ≡ inThree (calGrayOf k (limited (pos 0) (pos 1000000) a)) (outside (pos 0) (pos 1000000) a)
+unfolding answered valued closedBy limitedTo limitStep limitedAt listed
 gray-colour k a = refl
+
+still : outside (pos 0) (pos 1000000) (pos 1000000) ≡ false
+unfolding outside
+still = refl
 
 gray-1 : (k : GrayClosing) → answered (calGray k) (pos 1000000 ∷ []) ≡ whiteReply (k .xw) (k .zw)
 gray-1 k =
     gray-colour k (pos 1000000)
-    ∙ (ap (λ (a : ℤ). inThree (calGrayOf k a)) (limited-inside (pos 0) (pos 1000000) (pos 1000000) refl refl)
-    ∙ (ap inThree (gray-white k) ∙ ap (λ (y : Float). answer inXyz (float (k .xw) ∷ y ∷ float (k .zw) ∷ [])) (sym one-float)))
+    ∙ ((λ i. inThree (calGrayOf k (limited-inside (pos 0) (pos 1000000) (pos 1000000) refl refl i)) (still i))
+    ∙ (ap (λ (p : Xyz). inThree p false) (gray-white k) ∙ ap (λ (y : Float). answer inXyz (float (k .xw) ∷ y ∷ float (k .zw) ∷ []) false) (sym one-float)))
 
 -- ---- tints
 
@@ -94,23 +100,23 @@ module _ (page : List ℕ) (n e : ℕ) (c0 c1 : List ℤ) (s : Space) (ok : vali
   supported = made .0
 
   module _ (tint : ℤ) (k : ℕ) (lt : k < countOf s) (u : InUnit (value c0 k)) (v : InUnit (value c1 k)) where
-    abbrev values : List ℤ
-    values = given places (tint ∷ [])
+    abbrev begun : Colour
+    begun = started places (tint ∷ [])
 
-    first : value values 0 ≡ tint
+    first : value (begun .values) 0 ≡ tint
     unfolding listed
     first = refl
 
-    room : countOf s ≤ length values
+    room : countOf s ≤ length (begun .values)
     room = rw (listed-length (value (tint ∷ [])) places) (count-high s)
 
-    handed : value (tintStep e (countOf s) c0 c1 values) k ≡ tintValue (value c0 k) (value c1 k) (tintPower (limitedTint tint) e)
+    handed : value (tintStep e (countOf s) c0 c1 begun .values) k ≡ tintValue (value c0 k) (value c1 k) (tintPower (limitedTint tint) e)
     unfolding tintOf
     handed =
-        tinted e (countOf s) c0 c1 values k lt room
+        tinted e (countOf s) c0 c1 begun k lt room
         ∙ ap (λ (x : ℤ). tintValue (value c0 k) (value c1 k) (tintPower (natAbs (limited (pos 0) (pos 1000000) x)) e)) first
 
-    handed-close : WithinTwo e (limitedTint tint) (value c0 k) (value c1 k) (value (tintStep e (countOf s) c0 c1 values) k)
+    handed-close : WithinTwo e (limitedTint tint) (value c0 k) (value c1 k) (value (tintStep e (countOf s) c0 c1 begun .values) k)
     handed-close =
         let low = leb-true 1 e (and-left _ _ supported) in
         let high = leb-true e 4 (and-right (leb 1 e) _ supported) in

@@ -9,7 +9,8 @@ use lib.IntN.{ℤ, pos, _+ℤ_, _-ℤ_, _*ℤ_}
 use lib.ListN.{length, set}
 use lib.Seq.{getD-set-same, getD-set-other}
 use Rattle.fixed.specs.Numbers.{limited, halfUpℕ, partWay, tintPower, tintValue}
-use Rattle.fixed.specs.Values.{value, filled, tintOf, tintStep}
+use Rattle.fixed.specs.Values.{value, filled, tintOf, tintedBy, tintStep}
+use Rattle.fixed.specs.declared.values.Colour.{Colour}
 use Rattle.fixed.proofs.Diff.{Diff, up, down, itself, add, sub, scale, shift, same, half-at}
 use Rattle.fixed.proofs.Listed.{filled-length}
 
@@ -77,18 +78,21 @@ unfolding filled
 filled-value f zero k v h l = absurd (omega arith)
 filled-value f (suc m) k v h l = at-last f m k v (decLt k m) h l (λ q. filled-value f m k v q (omega arith))
 
-module _ (e m : ℕ) (c0 c1 v : List ℤ) (k : ℕ) (lt : k < m) (le : m ≤ length v) where
-  pub tinted : value (tintStep e m c0 c1 v) k ≡ tintValue (value c0 k) (value c1 k) (tintOf (value v 0) e)
-  unfolding tintStep
+module _ (e m : ℕ) (c0 c1 : List ℤ) (c : Colour) (k : ℕ) (lt : k < m) (le : m ≤ length (c .values)) where
+  abbrev v : List ℤ
+  v = c .values
+
+  pub tinted : value (tintStep e m c0 c1 c .values) k ≡ tintValue (value c0 k) (value c1 k) (tintOf (value v 0) e)
+  unfolding tintStep tintedBy
   tinted = filled-value (λ k. tintValue (value c0 k) (value c1 k) (tintOf (value v 0) e)) m k v lt le
 
-  pub tint-1 : value v 0 ≡ pos 1000000 → value (tintStep e m c0 c1 v) k ≡ value c1 k
+  pub tint-1 : value v 0 ≡ pos 1000000 → value (tintStep e m c0 c1 c .values) k ≡ value c1 k
   tint-1 h =
       tinted ∙
       (ap (λ (x : ℤ). tintValue (value c0 k) (value c1 k) (tintOf x e)) h ∙
       (ap (tintValue (value c0 k) (value c1 k)) (tint-of-1 e) ∙ all-the-way (value c0 k) (value c1 k)))
 
-  pub tint-0 : value v 0 ≡ pos 0 → value (tintStep e m c0 c1 v) k ≡ value c0 k
+  pub tint-0 : value v 0 ≡ pos 0 → value (tintStep e m c0 c1 c .values) k ≡ value c0 k
   tint-0 h =
       tinted ∙
       (ap (λ (x : ℤ). tintValue (value c0 k) (value c1 k) (tintOf x e)) h ∙

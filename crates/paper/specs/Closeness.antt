@@ -1,12 +1,13 @@
 -- FORMAT.md, Worked values, White and tints: CalGray 1 and Lab (100, 0, 0) give exactly the white point's floats, and the components that a tint makes are close to the exact ones.
 -- One statement, each part under the words of the customer's request.
 use mathlib.Core.Path.{_≡_}
+use mathlib.Core.Bool.{false}
 use mathlib.Core.List.{List, [], _∷_}
 use Prim.Native.Nat.{ℕ, _*_, _^_, _≤_, _<_}
 use lib.IntN.{ℤ, pos, natAbs, _+ℤ_, _-ℤ_, _*ℤ_}
 use lib.Signed.{_≤ℤ_}
 use Rattle.fixed.specs.Numbers.{float, limited, tintPower, tintValue}
-use Rattle.fixed.specs.Values.{places, value, given, tintStep}
+use Rattle.fixed.specs.Values.{places, value, started, tintStep}
 use Rattle.cie.specs.declared.GrayClosing.{GrayClosing}
 use Rattle.cie.specs.declared.LabClosing.{LabClosing}
 use Rattle.cie.specs.Answers.{Reply, answer, inXyz}
@@ -17,9 +18,9 @@ use Rattle.page.specs.Validation.{validated}
 use Rattle.colour.specs.Evaluating.{evaluated}
 use Rattle.paper.specs.Paper.{Within}
 
--- the white point's floats, of its X and Z in millionths
+-- the white point's floats, of its X and Z in millionths; nothing was moved
 abbrev pub whiteReply : ℤ → ℤ → Reply
-whiteReply xw zw = answer inXyz (float xw ∷ float (pos 1000000) ∷ float zw ∷ [])
+whiteReply xw zw = answer inXyz (float xw ∷ float (pos 1000000) ∷ float zw ∷ []) false
 
 -- a number of 0..1
 pub record InUnit (z : ℤ) : Type 0 where
@@ -56,4 +57,4 @@ pub record WhiteAndTints : Type 0 where
   -- so is what a Separation of an accepted page hands its alternate, in each component, for every tint
   pub handed-close : (page : List ℕ) (n e : ℕ) (c0 c1 : List ℤ) (s : Space) → validated page ≡ accepted → spaceAt page n ≡ separation e c0 c1 s
       → (tint : ℤ) (k : ℕ) → k < countOf s → InUnit (value c0 k) → InUnit (value c1 k)
-      → WithinTwo e (limitedTint tint) (value c0 k) (value c1 k) (value (tintStep e (countOf s) c0 c1 (given places (tint ∷ []))) k)
+      → WithinTwo e (limitedTint tint) (value c0 k) (value c1 k) (value (tintStep e (countOf s) c0 c1 (started places (tint ∷ [])) .values) k)

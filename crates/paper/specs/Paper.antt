@@ -13,6 +13,7 @@ use mir.Val.{SFits}
 use Rattle.fixed.specs.Numbers.{float, paletteValue}
 use Rattle.fixed.specs.Bytes.{blocks, twoAt}
 use Rattle.fixed.specs.Values.{value, indexOf, tintStep}
+use Rattle.fixed.specs.declared.values.Colour.{Colour}
 use Rattle.cie.specs.declared.LabClosing.{LabClosing}
 use Rattle.cie.specs.Answers.{answer, inXyz}
 use Rattle.cie.specs.Steps.{whole, cubed, labP, labN, firstCubed, secondCubed, thirdCubed, first, second, third}
@@ -87,15 +88,15 @@ pub record Paper : Type 0 where
   -- "CalGray block 0, white 0.9505 1 1.089, black 0, gamma 1, has check 1066 and 3030"
   pub gray-check : Check gray0 1066 3030
   -- "its colour 1 gives the white point's floats": of that block as a page, which is judged first
-  pub gray-1 : evaluated (blockOf gray0) 0 (pos 1000000 ∷ []) ≡ answer inXyz (float (pos 950500) ∷ float (pos 1000000) ∷ float (pos 1089000) ∷ [])
-  -- "-3 gives zeros"
-  pub gray-minus-3 : evaluated (blockOf gray0) 0 (negsuc 2999999 ∷ []) ≡ answer inXyz (nought ∷ nought ∷ nought ∷ [])
+  pub gray-1 : evaluated (blockOf gray0) 0 (pos 1000000 ∷ []) ≡ answer inXyz (float (pos 950500) ∷ float (pos 1000000) ∷ float (pos 1089000) ∷ []) false
+  -- "-3 gives zeros": it is limited, and the answer says so
+  pub gray-minus-3 : evaluated (blockOf gray0) 0 (negsuc 2999999 ∷ []) ≡ answer inXyz (nought ∷ nought ∷ nought ∷ []) true
   -- "Lab, 0 within both ranges, here and in the next line. (100,0,0): the white point's floats." For every white point
   pub lab-100 : (k : LabClosing) (al ah bl bh : ℤ) → Within al ah → Within bl bh
-      → answered (lab k al ah bl bh) (pos 100000000 ∷ pos 0 ∷ pos 0 ∷ []) ≡ answer inXyz (float (k .xw) ∷ float (pos 1000000) ∷ float (k .zw) ∷ [])
+      → answered (lab k al ah bl bh) (pos 100000000 ∷ pos 0 ∷ pos 0 ∷ []) ≡ answer inXyz (float (k .xw) ∷ float (pos 1000000) ∷ float (k .zw) ∷ []) false
   -- "(0,0,0): zeros". For every white point that the clause permits
   pub lab-0 : (k : LabClosing) (al ah bl bh : ℤ) → White (k .xw) → White (k .zw) → Within al ah → Within bl bh
-      → answered (lab k al ah bl bh) (pos 0 ∷ pos 0 ∷ pos 0 ∷ []) ≡ answer inXyz (nought ∷ nought ∷ nought ∷ [])
+      → answered (lab k al ah bl bh) (pos 0 ∷ pos 0 ∷ pos 0 ∷ []) ≡ answer inXyz (nought ∷ nought ∷ nought ∷ []) false
   -- "L* 8 with a = b = 0 is cubed in all three": each test passes there, on whole numbers, and each float is the cube of its ratio
   pub lab-8-branches : Branches (pos 8000000) true
   pub lab-8 : (first (labP (pos 8000000) (pos 0)) ≡ cubed (ratio 3000000000 14500000000)) × (second (pos 8000000) ≡ cubed (ratio 24000000 116000000)) × (third (labN (pos 8000000) (pos 0)) ≡ cubed (ratio 1200000000 5800000000))
@@ -108,7 +109,9 @@ pub record Paper : Type 0 where
   pub index-minus-0-5 : (hival : ℕ) → indexOf (negsuc 499999) hival ≡ 0
   -- "byte B5 over 0..1 gives 709804"
   pub byte-b5 : paletteValue 0xB5 (pos 0) (pos 1000000) ≡ pos 709804
-  -- "tint 1 gives C1 and tint 0 gives C0, before the alternate's limits", of every name but None and All, which have no tint step: under every exponent, whatever the numbers of C0 and C1, in each of the m
-  -- components that the tint step makes, among as many values as there are
-  pub tint-1 : (e m : ℕ) (c0 c1 v : List ℤ) (k : ℕ) → k < m → m ≤ length v → value v 0 ≡ pos 1000000 → value (tintStep e m c0 c1 v) k ≡ value c1 k
-  pub tint-0 : (e m : ℕ) (c0 c1 v : List ℤ) (k : ℕ) → k < m → m ≤ length v → value v 0 ≡ pos 0 → value (tintStep e m c0 c1 v) k ≡ value c0 k
+  -- "tint 1 gives C1 and tint 0 gives C0, before the alternate's limits", of every name but None and All, which have no tint step: under every exponent,
+  -- whatever the numbers of C0 and C1, in each of the m components that the tint step makes, among as many values as there are
+  pub tint-1 : (e m : ℕ) (c0 c1 : List ℤ) (c : Colour) (k : ℕ) → k < m → m ≤ length (c .values) → value (c .values) 0 ≡ pos 1000000
+      → value (tintStep e m c0 c1 c .values) k ≡ value c1 k
+  pub tint-0 : (e m : ℕ) (c0 c1 : List ℤ) (c : Colour) (k : ℕ) → k < m → m ≤ length (c .values) → value (c .values) 0 ≡ pos 0
+      → value (tintStep e m c0 c1 c .values) k ≡ value c0 k

@@ -1,6 +1,6 @@
 -- What each step of a recipe does, over plain lists: a run that begins with the step's words is the run of the words after them, or the answer.
 use mathlib.Core.Path.{_≡_, refl, ap, ap₂, _∙_}
-use mathlib.Core.Bool.{true, false, cond, _&&_}
+use mathlib.Core.Bool.{true, false, cond, _&&_, _||_}
 use mathlib.Core.List.{List, [], _∷_, _++_, append-assoc}
 use Prim.Native.Nat.{ℕ, suc, _+_, _*_, _≤_, _<_}
 use native.Mathlib.Omega.{arith}
@@ -10,10 +10,11 @@ use lib.Dec.{leb, eqb}
 use lib.ListN.{length, drop, length-append, List·getD-append}
 use lib.Seq.{drop-append-seam}
 use borrow.Author.Tests.{lt-ltb, le-ltb, le-leb, eq-eqb}
-use Rattle.fixed.specs.Numbers.{exponentSupported, gammaSupported, tintValue}
-use Rattle.fixed.specs.Values.{value, places, given, limitStep, indexOf, rowStep, tintOf, tintStep}
+use Rattle.fixed.specs.Numbers.{exponentSupported, gammaSupported, tintValue, outside, indexOutside}
+use Rattle.fixed.specs.Values.{value, places, started, limitStep, indexOf, rowFrom, rowStep, tintOf, tintedBy, tintStep}
 use Rattle.fixed.proofs.Decide.{both}
 use Rattle.fixed.proofs.Listed.{filled-same, index-within, row-room}
+use Rattle.fixed.specs.declared.values.Colour.{Colour}
 use Rattle.cie.specs.Answers.{refusal}
 use Rattle.cie.specs.Closings.{closed}
 use Rattle.cie.specs.declared.GrayClosing.{GrayClosing}
@@ -33,7 +34,7 @@ one-to m top low high = both (le-leb 1 m low) (le-leb m top high)
 
 -- ---- the input count
 
-pub count-run : (m : ℕ) (l cs : List ℤ) → 1 ≤ m → m ≤ places → suc (length l) ≤ longest → ran (pos m ∷ l) cs ≡ runs m (length cs) l (given places cs)
+pub count-run : (m : ℕ) (l cs : List ℤ) → 1 ≤ m → m ≤ places → suc (length l) ≤ longest → ran (pos m ∷ l) cs ≡ runs m (length cs) l (started places cs)
 unfolding ran
 count-run m l cs low high short = simp (le-ltb longest (suc (length l)) short, one-to m places low high)
 
@@ -45,7 +46,7 @@ limit-read k lo hi l h o =
     let e : 4 ≤ suc (suc (suc (suc (length l)))) = omega arith in
     simp (le-ltb _ 4 e, lt-ltb k places h, o)
 
-pub limit-run : (n c k : ℕ) (lo hi : ℤ) (l v : List ℤ) → k < places → ltZ hi lo ≡ false
+pub limit-run : (n c k : ℕ) (lo hi : ℤ) (l : List ℤ) (v : Colour) → k < places → ltZ hi lo ≡ false
     → runs n c (pos 1 ∷ pos k ∷ lo ∷ hi ∷ l) v ≡ runs n c l (limitStep k lo hi v)
 limit-run n c k lo hi l v h o = begun n c (pos 1 ∷ pos k ∷ lo ∷ hi ∷ l) v (limit-read k lo hi l h o)
 
@@ -67,8 +68,8 @@ module _ (e m : ℕ) (c0 c1 l : List ℤ) (supported : exponentSupported e ≡ t
       ap (λ (j : ℕ). drop j tinted) k ∙ drop-append-seam (c0 ++ c1) l
 
   -- the C0s stand after three words, and the C1s after m more
-  tint-values : (v : List ℤ) → tintStep e m (drop 3 tinted) (drop (3 + m) tinted) v ≡ tintStep e m c0 c1 v
-  unfolding tintStep
+  tint-values : (v : List ℤ) → tintedBy e m (drop 3 tinted) (drop (3 + m) tinted) v ≡ tintedBy e m c0 c1 v
+  unfolding tintedBy
   tint-values v =
       filled-same _ _ m v (λ k lt.
       let a : value ((c0 ++ c1) ++ l) k ≡ value c0 k =
@@ -79,8 +80,12 @@ module _ (e m : ℕ) (c0 c1 l : List ℤ) (supported : exponentSupported e ≡ t
       let b : value (drop (3 + m) tinted) k ≡ value c1 k = ap (λ (x : List ℤ). value x k) d ∙ List·getD-append c1 l (pos 0) k (omega arith) in
       ap₂ (λ (x y : ℤ). tintValue x y (tintOf (value v 0) e)) a b)
 
-  pub tint-run : (n c : ℕ) (v : List ℤ) → runs n c ((pos 3 ∷ pos e ∷ pos m ∷ (c0 ++ c1)) ++ l) v ≡ runs n c l (tintStep e m c0 c1 v)
-  tint-run n c v = begun n c tinted v tint-read ∙ ap₂ (λ (x y : List ℤ). runs n c x y) tint-drop (tint-values v)
+  tint-same : (v : Colour) → tintStep e m (drop 3 tinted) (drop (3 + m) tinted) v ≡ tintStep e m c0 c1 v
+  unfolding tintStep
+  tint-same v = λ i. record { values = tint-values (v .values) i; moved = v .moved || outside (pos 0) (pos 1000000) (value (v .values) 0) }
+
+  pub tint-run : (n c : ℕ) (v : Colour) → runs n c ((pos 3 ∷ pos e ∷ pos m ∷ (c0 ++ c1)) ++ l) v ≡ runs n c l (tintStep e m c0 c1 v)
+  tint-run n c v = begun n c tinted v tint-read ∙ ap₂ (λ (x : List ℤ) (y : Colour). runs n c x y) tint-drop (tint-same v)
 
 -- ---- a row of a table of h + 1 rows, m entries each
 
@@ -100,19 +105,23 @@ module _ (m h : ℕ) (t l : List ℤ) (low : 1 ≤ m) (high : m ≤ places) (las
       ap (λ (j : ℕ). drop j rowed) k ∙ drop-append-seam t l
 
   -- the row that is picked lies in the table
-  row-values : (v : List ℤ) → rowStep m h (t ++ l) v ≡ rowStep m h t v
-  unfolding rowStep
+  row-values : (v : List ℤ) → rowFrom m h (t ++ l) v ≡ rowFrom m h t v
+  unfolding rowFrom
   row-values v =
       filled-same _ _ m v (λ k lt.
       let b : indexOf (value v 0) h * m + k < m * (h + 1) = row-room m h (indexOf (value v 0) h) k (index-within (value v 0) h) lt in
       List·getD-append t l (pos 0) (indexOf (value v 0) h * m + k) (omega arith))
 
-  pub row-run : (n c : ℕ) (v : List ℤ) → runs n c ((pos 2 ∷ pos m ∷ pos h ∷ t) ++ l) v ≡ runs n c l (rowStep m h t v)
-  row-run n c v = begun n c rowed v row-read ∙ ap₂ (λ (x y : List ℤ). runs n c x y) row-drop (row-values v)
+  row-same : (v : Colour) → rowStep m h (t ++ l) v ≡ rowStep m h t v
+  unfolding rowStep
+  row-same v = λ i. record { values = row-values (v .values) i; moved = v .moved || indexOutside (value (v .values) 0) h }
+
+  pub row-run : (n c : ℕ) (v : Colour) → runs n c ((pos 2 ∷ pos m ∷ pos h ∷ t) ++ l) v ≡ runs n c l (rowStep m h t v)
+  row-run n c v = begun n c rowed v row-read ∙ ap₂ (λ (x : List ℤ) (y : Colour). runs n c x y) row-drop (row-same v)
 
 -- ---- a closing step, after which nothing stands
 
-pub close-run : (n c : ℕ) (l v : List ℤ) (k : Closing) → stepOf l ≡ At (Close k) (length l)
+pub close-run : (n c : ℕ) (l : List ℤ) (v : Colour) (k : Closing) → stepOf l ≡ At (Close k) (length l)
     → runs n c l v ≡ cond (eqb c n) (closed k v) (refusal 9 0)
 unfolding ended
 close-run n c l v k e = begun n c l v e ∙ simp (eq-eqb (length l) (length l) refl)
@@ -152,7 +161,7 @@ pub every-ink-read : stepOf (pos 11 ∷ []) ≡ At (Close EveryInk) 1
 unfolding stepBy closeRead
 every-ink-read = refl
 
-module _ (n c : ℕ) (v : List ℤ) where
+module _ (n c : ℕ) (v : Colour) where
   pub no-mark-run : runs n c (pos 10 ∷ []) v ≡ cond (eqb c n) (closed NoMark v) (refusal 9 0)
   no-mark-run = close-run n c (pos 10 ∷ []) v NoMark no-mark-read
 

@@ -15,6 +15,7 @@ use borrow.Author.Tests.{ltb-true, ltb-false}
 use Rattle.fixed.specs.Numbers.{exponentSupported, gammaSupported}
 use Rattle.fixed.specs.Values.{value, smallOf, places}
 use Rattle.fixed.proofs.Decide.{cond-ind}
+use Rattle.fixed.specs.declared.values.Colour.{Colour}
 use Rattle.cie.specs.Answers.{Reply, refusal}
 use Rattle.cie.specs.declared.Closing.{Closing}
 use Rattle.cie.specs.declared.Closing.the-variants.{Gray, Rgb, Cmyk, CalGray, CalRgb, Lab, NoMark, EveryInk}
@@ -105,7 +106,7 @@ step-sound l = by-sound (smallOf (value l 0)) l .sound
 -- ---- a run and its first step
 
 -- words that are passed over are dropped
-go-drop : (n c : ℕ) (l : List ℤ) (k : ℕ) (v : List ℤ) → runsAfter n c l k v ≡ runs n c (drop k l) v
+go-drop : (n c : ℕ) (l : List ℤ) (k : ℕ) (v : Colour) → runsAfter n c l k v ≡ runs n c (drop k l) v
 unfolding runsAfter
 go-drop n c [] zero v = refl
 go-drop n c [] (suc k) v = refl
@@ -117,7 +118,7 @@ abbrev pub after : ℕ → ℕ → List ℤ → ℕ → Turn → Reply
 after n c l size (done r) = r
 after n c l size (more u) = runs n c (drop size l) u
 
-abbrev pub begins : ℕ → ℕ → List ℤ → List ℤ → Read → Reply
+abbrev pub begins : ℕ → ℕ → List ℤ → Colour → Read → Reply
 begins n c l v Nothing = refusal 11 0
 begins n c l v (At s size) = after n c l size (turnOf l n c v size s)
 
@@ -127,24 +128,24 @@ turn-is n c w ws size (done r) h = refl
 turn-is n c w ws zero (more u) h = absurd (omega arith)
 turn-is n c w ws (suc k) (more u) h = go-drop n c ws k u
 
-read-is : (n c : ℕ) (w : ℤ) (ws : List ℤ) (v : List ℤ) (r : Read) → Sound (w ∷ ws) r
+read-is : (n c : ℕ) (w : ℤ) (ws : List ℤ) (v : Colour) (r : Read) → Sound (w ∷ ws) r
     → elim r [ At s size ↦ elim (turnOf (w ∷ ws) n c v size s) [ done r ↦ r | more u ↦ runsAfter n c ws (pred size) u ] | Nothing ↦ refusal 11 0 ]
     ≡ begins n c (w ∷ ws) v r
 read-is n c w ws v Nothing h = refl
 read-is n c w ws v (At s size) h = turn-is n c w ws size (turnOf (w ∷ ws) n c v size s) (h .0)
 
 -- a run is its first step, and the run of what follows
-pub runs-step : (n c : ℕ) (l v : List ℤ) → runs n c l v ≡ begins n c l v (stepOf l)
+pub runs-step : (n c : ℕ) (l : List ℤ) (v : Colour) → runs n c l v ≡ begins n c l v (stepOf l)
 unfolding runsAfter stepBy
 runs-step n c [] v = refl
 runs-step n c (w ∷ ws) v = read-is n c w ws v (stepOf (w ∷ ws)) (step-sound (w ∷ ws))
 
 -- a run whose first step is known
-pub begun : (n c : ℕ) (l v : List ℤ) {s : Step} {k : ℕ} → stepOf l ≡ At s k → runs n c l v ≡ after n c l k (turnOf l n c v k s)
+pub begun : (n c : ℕ) (l : List ℤ) (v : Colour) {s : Step} {k : ℕ} → stepOf l ≡ At s k → runs n c l v ≡ after n c l k (turnOf l n c v k s)
 begun n c l v e = runs-step n c l v ∙ ap (begins n c l v) e
 
--- a step that does not close leaves the values `stepped`
-open-step : (n c : ℕ) (l v : List ℤ) (size : ℕ) (s : Step) → ((k : Closing) → s ≡ Close k → ⊥)
+-- a step that does not close leaves the colour `stepped`
+open-step : (n c : ℕ) (l : List ℤ) (v : Colour) (size : ℕ) (s : Step) → ((k : Closing) → s ≡ Close k → ⊥)
     → after n c l size (turnOf l n c v size s) ≡ runs n c (drop size l) (stepped l v s)
 open-step n c l v size (Limit k lo hi) isnt = refl
 open-step n c l v size (Row m h) isnt = refl
@@ -160,16 +161,16 @@ part-is ws at = take-all (length ws - at) (drop at ws) (rw length-drop (le-refl 
 abbrev pub part : List ℤ → ℕ → List ℤ
 part ws at = take (length ws - at) (drop at ws)
 
--- what is known of a step s of `size` words that was read there: it closes, or leaves the values u
-pub record Known (n c : ℕ) (ws : List ℤ) (at : ℕ) (v : List ℤ) (s : Step) (size : ℕ) : Type 0 where
+-- what is known of a step s of `size` words that was read there: it closes, or leaves the colour u
+pub record Known (n c : ℕ) (ws : List ℤ) (at : ℕ) (v : Colour) (s : Step) (size : ℕ) : Type 0 where
   pub low : 1 ≤ size
   pub high : at + size ≤ length ws
   pub range : Bounded s
   pub ends : (k : Closing) → s ≡ Close k → ended (part ws at) n c k size v ≡ runs n c (drop at ws) v
-  pub leaves : (u : List ℤ) → ((k : Closing) → s ≡ Close k → ⊥) → u ≡ stepped (part ws at) v s
+  pub leaves : (u : Colour) → ((k : Closing) → s ≡ Close k → ⊥) → u ≡ stepped (part ws at) v s
       → runs n c (drop (at + size) ws) u ≡ runs n c (drop at ws) v
 
-module _ (n c : ℕ) (ws : List ℤ) (at : ℕ) (v : List ℤ) {r : Read} (heard : r ≡ stepOf (part ws at)) where
+module _ (n c : ℕ) (ws : List ℤ) (at : ℕ) (v : Colour) {r : Read} (heard : r ≡ stepOf (part ws at)) where
   abbrev rest : List ℤ
   rest = drop at ws
 

@@ -5,7 +5,8 @@ use mathlib.Core.List.{List, [], _∷_}
 use lib.IntN.{ℤ}
 use lib.Dec.{ltb, eqb}
 use lib.ListN.{length, drop}
-use Rattle.fixed.specs.Values.{value, smallOf, places, given, limitStep, rowStep, tintStep}
+use Rattle.fixed.specs.Values.{value, smallOf, places, started, limitStep, rowStep, tintStep}
+use Rattle.fixed.specs.declared.values.Colour.{Colour}
 use Rattle.cie.specs.Answers.{Reply, refusal}
 use Rattle.cie.specs.Closings.{closed}
 use Rattle.cie.specs.declared.Closing.{Closing}
@@ -18,31 +19,31 @@ use Rattle.runner.specs.declared.Read.the-variants.{At, Nothing}
 abbrev pub longest : ℕ
 longest = 1045
 
--- what one step comes to: the reply, or the values after it
+-- what one step comes to: the reply, or the colour after it
 pub data Turn : Type 0 where
   done : Reply → Turn
-  more : List ℤ → Turn
+  more : Colour → Turn
 
 -- at a closing step of `size` words: 11 where anything follows it, then 9 where not n components but c were given, then the answer
-unfoldable pub ended : List ℤ → ℕ → ℕ → Closing → ℕ → List ℤ → Reply
+unfoldable pub ended : List ℤ → ℕ → ℕ → Closing → ℕ → Colour → Reply
 ended l n c k size v = cond (eqb size (length l)) (cond (eqb c n) (closed k v) (refusal 9 0)) (refusal 11 0)
 
--- the values after a step that does not close, whose words stand at the front of l
-abbrev pub stepped : List ℤ → List ℤ → Step → List ℤ
+-- the colour after a step that does not close, whose words stand at the front of l
+abbrev pub stepped : List ℤ → Colour → Step → Colour
 stepped l v (Limit k lo hi) = limitStep k lo hi v
 stepped l v (Row m h) = rowStep m h (drop 3 l) v
 stepped l v (Tint e m) = tintStep e m (drop 3 l) (drop (3 + m) l) v
 stepped l v (Close k) = v
 
 -- one step, whose words stand at the front of l
-abbrev pub turnOf : List ℤ → ℕ → ℕ → List ℤ → ℕ → Step → Turn
+abbrev pub turnOf : List ℤ → ℕ → ℕ → Colour → ℕ → Step → Turn
 turnOf l n c v size (Limit k lo hi) = more (stepped l v (Limit k lo hi))
 turnOf l n c v size (Row m h) = more (stepped l v (Row m h))
 turnOf l n c v size (Tint e m) = more (stepped l v (Tint e m))
 turnOf l n c v size (Close k) = done (ended l n c k size v)
 
 -- the steps after k words that are passed over; 11 where none is read
-unfoldable pub runsAfter : ℕ → ℕ → List ℤ → ℕ → List ℤ → Reply
+unfoldable pub runsAfter : ℕ → ℕ → List ℤ → ℕ → Colour → Reply
 runsAfter n c [] k v = refusal 11 0
 runsAfter n c (w ∷ ws) (suc k) v = runsAfter n c ws k v
 runsAfter n c (w ∷ ws) zero v =
@@ -51,13 +52,13 @@ runsAfter n c (w ∷ ws) zero v =
       | Nothing ↦ refusal 11 0
     ]
 
--- the steps that stand in l, from values v on
-abbrev pub runs : ℕ → ℕ → List ℤ → List ℤ → Reply
+-- the steps that stand in l, from the colour v on
+abbrev pub runs : ℕ → ℕ → List ℤ → Colour → Reply
 runs n c l v = runsAfter n c l 0 v
 
 -- the input count, then the steps
 abbrev pub counted : ℕ → List ℤ → List ℤ → Reply
-counted n ws cs = cond (fills n) (runs n (length cs) (drop 1 ws) (given places cs)) (refusal 11 0)
+counted n ws cs = cond (fills n) (runs n (length cs) (drop 1 ws) (started places cs)) (refusal 11 0)
 
 unfoldable pub ran : List ℤ → List ℤ → Reply
 ran ws cs = cond (ltb longest (length ws)) (refusal 11 0) (counted (smallOf (value ws 0)) ws cs)

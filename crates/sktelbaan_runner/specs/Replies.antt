@@ -1,5 +1,6 @@
 -- Replies as C has them: 64 bits and, of an answer, four floats.
 use Prim.Native.Nat.{ℕ, _+_, _*_}
+use mathlib.Core.Bool.{Bool, true, false}
 use mathlib.Core.List.{List}
 use lib.Ieee.{Float}
 use lib.Seq.{sets}
@@ -18,12 +19,17 @@ codeOf inXyz = 4
 codeOf noMark = 5
 codeOf everyInk = 6
 
--- an answer: no refusal, and its code; a refusal: its number and block
+-- the top bit of a reply says whether a limit moved anything
+abbrev pub movedBit : Bool → ℕ
+movedBit true = 2147483648
+movedBit false = 0
+
+-- an answer: no refusal, its code, and that bit beside it; a refusal: its number and block
 abbrev pub replyOf : Reply → ℕ
-replyOf (answer k fs) = inHalves 0 (codeOf k)
+replyOf (answer k fs m) = inHalves 0 (codeOf k + movedBit m)
 replyOf (refusal number block) = inHalves number block
 
 -- an answer's floats, stored from the first on, the others as they were; on a refusal all as they were
 abbrev pub floatsOf : Reply → List Float → List Float
-floatsOf (answer k fs) d = sets d 0 fs
+floatsOf (answer k fs m) d = sets d 0 fs
 floatsOf (refusal number block) d = d

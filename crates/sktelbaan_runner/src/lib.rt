@@ -11,7 +11,7 @@ pub use answers::halves;
 pub use answers::put_answer;
 
 // Runs a recipe on a colour's components. The reply gives 1 for Gray, 2 for RGB, 3 for CMYK, 4 for XYZ, 5 for no mark and 6 for every ink, with
-// its one, three or four floats in `floats`, of no mark none; the others, and on a refusal all, stay as they were.
+// its one, three or four floats in `floats`, of no mark none, and sets its top bit where a limit moved anything; the others, and on a refusal all, stay as they were.
 #[no_mangle]
 pub extern "C" fn sktelbaan_run(words: &[i32], components: &[i32], floats: &mut [f64; 4]) -> u64
     ensures { λ r. ⌜ r ≡ replyOf (ran (now (words .entry)) (now (components .entry))) ⌝ }

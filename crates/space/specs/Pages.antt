@@ -9,6 +9,7 @@ use lib.ListN.{take}
 use Rattle.fixed.specs.Numbers.{paletteValue}
 use Rattle.fixed.specs.Bytes.{blocks, grayCode, rgbCode, cmykCode, blockAt}
 use Rattle.fixed.specs.Values.{places, listed, rowStep}
+use Rattle.fixed.specs.declared.values.Colour.{Colour}
 use Rattle.cie.specs.declared.GrayClosing.{GrayClosing}
 use Rattle.cie.specs.declared.RgbClosing.{RgbClosing}
 use Rattle.cie.specs.declared.LabClosing.{LabClosing}
@@ -113,8 +114,8 @@ tableOf page n hival s = listed (entryOf page n s) (countOf s * (hival + 1))
 abbrev pub indexedOver : List ℕ → ℕ → ℕ → Space → Space
 indexedOver page n hival s = indexed hival (tableOf page n hival s) s
 
--- the step of an Indexed on values
-abbrev pub rowAt : List ℕ → ℕ → ℕ → Space → List ℤ → List ℤ
+-- the step of an Indexed on a colour
+abbrev pub rowAt : List ℕ → ℕ → ℕ → Space → Colour → Colour
 rowAt page n hival s v = rowStep (countOf s) hival (tableOf page n hival s) v
 
 -- an Indexed over one of those, or one of those

@@ -1,5 +1,6 @@
 // Numbers, floats, answers and refusals, written to standard output.
 use cie::Answer;
+use cie::Answered;
 use cie::Xyz;
 use fixed::of_signed;
 use libc::STDOUT_FILENO;
@@ -88,8 +89,8 @@ pub fn say_refusal(number: u32, block: u32) {
     say_size(block);
 }
 
-// Writes an answer.
-pub fn say_answer(a: Answer) {
+// Writes an answer without its flag.
+fn say_floats(a: Answer) {
     match a {
         Answer::Gray(g) => {
             say(b"Gray ");
@@ -126,5 +127,31 @@ pub fn say_answer(a: Answer) {
         Answer::Refused { number, block } => {
             say_refusal(number, block);
         }
+    }
+}
+
+// Whether there is an answer, and no refusal.
+fn is_answer(a: Answer) -> bool {
+    match a {
+        Answer::Gray(_) => true,
+        Answer::Rgb(_, _, _) => true,
+        Answer::Cmyk(_, _, _, _) => true,
+        Answer::Xyz(_) => true,
+        Answer::NoMark => true,
+        Answer::EveryInk(_) => true,
+        Answer::Refused {
+            number: _,
+            block: _,
+        } => false,
+    }
+}
+
+// Writes an answer, and whether a limit moved anything on the way to it.
+pub fn say_answer(r: Answered) {
+    let moved = r.moved;
+    let a = r.answer;
+    say_floats(a);
+    if moved & is_answer(a) {
+        say(b" moved");
     }
 }

@@ -299,8 +299,8 @@ mod lcms {
         let apart = colours
             .each()
             .flat_map(|colour| {
-                let answer = sktelbaan::run(&words, colour).expect("the colour is answered");
-                answer.floats().to_vec()
+                let found = sktelbaan::run(&words, colour).expect("the colour is answered");
+                found.answer.floats().to_vec()
             })
             .zip(&xyz)
             .map(|(a, b)| (a - b).abs())

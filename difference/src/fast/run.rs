@@ -1,7 +1,8 @@
 //! Running a recipe in one pass over its words.
 
-use super::{decode, refused, values_of};
+use super::{decode, values_of};
 use reference::cie::Answer;
+use reference::colour::{Colour, Reply};
 use reference::numbers::{limit, ONE};
 use reference::recipe::MOST_WORDS;
 use reference::runner::{close, closing, step, Closing, Step};
@@ -12,9 +13,11 @@ fn half_up(n: i64, d: i64) -> i64 {
     floor + i64::from(2 * rest >= d)
 }
 
-/// The row that a component picks of 0..h.
-fn index(v: i32, h: u8) -> usize {
-    half_up(i64::from(v), 1_000_000).clamp(0, i64::from(h)) as usize
+/// The row that a component picks of 0..h, and whether its whole number had to be moved there.
+fn index(v: i32, h: u8) -> (usize, bool) {
+    let whole = half_up(i64::from(v), 1_000_000);
+    let row = whole.clamp(0, i64::from(h));
+    (row as usize, row != whole)
 }
 
 /// A tint in 0..1000000 to its exponent.
@@ -28,21 +31,29 @@ fn tint_value(c0: i32, c1: i32, q: i64) -> i32 {
     (c0 + half_up(q * (c1 - c0), 1_000_000)) as i32
 }
 
-/// Takes a step.
-fn take(step: Step<'_>, values: &mut [i32; 4]) {
+/// Takes a step, and says whether its limiting moved something.
+fn take(step: Step<'_>, values: &mut [i32; 4]) -> bool {
     match step {
-        Step::Limit { k, lo, hi } => values[k] = limit(values[k], lo, hi),
+        Step::Limit { k, lo, hi } => {
+            let before = values[k];
+            values[k] = limit(before, lo, hi);
+            values[k] != before
+        }
         Step::Rows { m, h, entries } => {
-            let row = index(values[0], h);
+            let (row, moved) = index(values[0], h);
             for (value, entry) in values.iter_mut().zip(&entries[row * m..][..m]) {
                 *value = *entry;
             }
+            moved
         }
         Step::Tint { e, c0, c1 } => {
-            let q = tint_power(i64::from(limit(values[0], 0, ONE)), e);
+            let before = values[0];
+            let tint = limit(before, 0, ONE);
+            let q = tint_power(i64::from(tint), e);
             for (value, (c0, c1)) in values.iter_mut().zip(c0.iter().zip(c1)) {
                 *value = tint_value(*c0, *c1, q);
             }
+            tint != before
         }
     }
 }
@@ -61,24 +72,26 @@ fn closed(closing: &Closing, values: [i32; 4]) -> Answer {
 
 /// Runs a recipe on a colour. Each step is taken as soon as it is read: nothing comes of it should a later word be
 /// ill-formed or the count of components wrong.
-pub fn run(words: &[i32], colour: &[i32]) -> Answer {
+pub fn run(words: &[i32], colour: &[i32]) -> Reply {
     let [count @ 1..=4, steps @ ..] = words else {
-        return refused(11);
+        return Err((11, 0));
     };
     if words.len() > MOST_WORDS {
-        return refused(11);
+        return Err((11, 0));
     }
     let mut values = values_of(colour);
+    let mut moved = false;
     let mut left = steps;
     while let Some((step, rest)) = step(left) {
-        take(step, &mut values);
+        moved |= take(step, &mut values);
         left = rest;
     }
     let Some(closing) = closing(left) else {
-        return refused(11);
+        return Err((11, 0));
     };
     if colour.len() != *count as usize {
-        return refused(9);
+        return Err((9, 0));
     }
-    closed(&closing, values)
+    let answer = closed(&closing, values);
+    Ok(Colour { answer, moved })
 }

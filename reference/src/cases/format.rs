@@ -2,6 +2,7 @@
 
 use crate::block::Body;
 use crate::cie::Answer;
+use crate::colour::Reply;
 
 /// One worked case: a label, an operation's number, its whole numbers and a last run of bytes.
 #[derive(Clone, Debug, PartialEq, Eq)]
@@ -55,7 +56,7 @@ pub fn float_text(v: f64) -> String {
     format!("{:016x}", v.to_bits())
 }
 
-/// An answer in words: what it is in and its floats, of which `NoMark` has none, or the refusal.
+/// An answer in words: what it is in and its floats, of which `NoMark` has none.
 pub fn answer_text(answer: &Answer) -> String {
     let (name, floats): (&str, &[f64]) = match answer {
         Answer::Gray(v) => ("Gray", std::slice::from_ref(v)),
@@ -64,11 +65,24 @@ pub fn answer_text(answer: &Answer) -> String {
         Answer::Xyz(v) => ("XYZ", v),
         Answer::NoMark => ("NoMark", &[]),
         Answer::EveryInk(v) => ("EveryInk", std::slice::from_ref(v)),
-        Answer::Refused { number, block } => return format!("refused {number} block {block}"),
     };
     floats.iter().fold(name.to_string(), |text, v| {
         format!("{text} {}", float_text(*v))
     })
+}
+
+/// A refusal with its block in words.
+pub(super) fn refusal_text((number, block): (u32, u32)) -> String {
+    format!("refused {number} block {block}")
+}
+
+/// What comes back for a colour in words: its answer, then ` moved` where something was moved; or the refusal.
+pub fn reply_text(reply: &Reply) -> String {
+    match reply {
+        Ok(colour) if colour.moved => answer_text(&colour.answer) + " moved",
+        Ok(colour) => answer_text(&colour.answer),
+        Err(refusal) => refusal_text(*refusal),
+    }
 }
 
 /// Words as bytes, four to a word, high byte first.

@@ -1,6 +1,8 @@
 //! What a case must print: its operation, done by the second implementation, in words.
 
-use super::format::{answer_text, dotted, float_text, hex_of, numbers_of, Case};
+use super::format::{
+    answer_text, dotted, float_text, hex_of, numbers_of, refusal_text, reply_text, Case,
+};
 use crate::block::{read_block, write_block, Body, Record, BLOCK, BODY, NAME};
 use crate::cie::{cal_gray, cal_rgb, lab, Answer};
 use crate::colour::evaluate;
@@ -49,7 +51,7 @@ impl Case {
             },
             (31, &[number, count, ref components @ ..], Some(page)) => {
                 let number = u32::try_from(number).ok()?;
-                answer_text(&evaluate(page, number, counted(count, components)?))
+                reply_text(&evaluate(page, number, counted(count, components)?))
             }
             (32, &[number, length], Some(page)) => {
                 let number = u32::try_from(number).ok()?;
@@ -57,7 +59,7 @@ impl Case {
             }
             (33, &[count, ref components @ ..], Some(bytes)) => {
                 let words = words_of(bytes)?;
-                answer_text(&runner::run(&words, counted(count, components)?))
+                reply_text(&runner::run(&words, counted(count, components)?))
             }
             (34, [], Some(page)) => list(page).lines().collect::<Vec<_>>().join("; "),
             _ => return None,
@@ -74,11 +76,6 @@ fn small(v: i32) -> Option<u8> {
 /// Components that are as many as their count says; none where they are not.
 fn counted(count: i32, components: &[i32]) -> Option<&[i32]> {
     (usize::try_from(count) == Ok(components.len())).then_some(components)
-}
-
-/// A refusal with its block in words.
-fn refusal_text((number, block): (u32, u32)) -> String {
-    format!("refused {number} block {block}")
 }
 
 /// The words that bytes are, four to a word; none where a word is not whole.

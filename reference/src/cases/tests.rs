@@ -1,10 +1,11 @@
 //! The cases are well-formed, say what the paper says, and reach every refusal.
 
-use super::format::{answer_text, bytes_of, decimal, numbers_of};
+use super::format::{answer_text, bytes_of, decimal, numbers_of, reply_text};
 use super::interpreter::{record_of, words_of};
 use super::*;
 use crate::block::BODY;
 use crate::cie::Answer;
+use crate::colour::Colour;
 use std::collections::{BTreeSet, HashSet};
 
 fn reply(label: &str) -> String {
@@ -46,6 +47,7 @@ fn the_cases_are_well_formed() {
     assert_eq!(ops(&recipes::cases()), [31, 32, 33]);
     assert_eq!(ops(&runs::cases()), [33]);
     assert_eq!(ops(&marks::cases()), [30, 31, 32, 33, 34]);
+    assert_eq!(ops(&moved::cases()), [31, 33]);
     assert_eq!(input_text(&cases).lines().count(), cases.len());
     assert_eq!(output_text(&cases).lines().count(), cases.len());
 }
@@ -146,6 +148,7 @@ fn a_recipe_replies_what_its_page_replies() {
 fn group_replies_worked_by_hand() {
     let white = answer_text(&Answer::Xyz([0.9505, 1.0, 1.089]));
     let zeros = answer_text(&Answer::Xyz([0.0; 3]));
+    let zeros_moved = format!("{zeros} moved");
     for (op, label, expected) in [
         (20, "an all-zero block 0", "0 0"),
         (20, "free block 5 has check 5 and 2525, read", "5 0"),
@@ -237,11 +240,11 @@ fn group_replies_worked_by_hand() {
             "CalGray, its colour 1 gives the white point's floats",
             &white,
         ),
-        (31, "CalGray, -3 gives zeros", &zeros),
+        (31, "CalGray, -3 gives zeros", &zeros_moved),
         (30, "Gamma 1.8 is fine", "accepted"),
         (30, "Gamma 1.85 gives 5", "refused 5 block 0"),
         (31, "CalGray 1 with gamma 1.8", &white),
-        (31, "CalGray -3 with gamma 2.2", &zeros),
+        (31, "CalGray -3 with gamma 2.2", &zeros_moved),
         (31, "CalGray 0.000049 with gamma 0.1", &zeros),
         (33, "CalGray closing, gamma 1.8, past 1", &white),
         (33, "CalGray closing, gamma 1.8, past 0", &zeros),
@@ -281,18 +284,27 @@ fn group_replies_worked_by_hand() {
         (33, "no step at all is well-formed", "Gray c01c000000000000"),
         (31, "Separation None, tint the least number", "NoMark"),
         (31, "Separation All, tint 0.25", "EveryInk 3fd0000000000000"),
-        (31, "Separation All, tint 2", "EveryInk 3ff0000000000000"),
+        (
+            31,
+            "Separation All, tint 2",
+            "EveryInk 3ff0000000000000 moved",
+        ),
         (
             31,
             "Separation All, tint -0.000001",
-            "EveryInk 0000000000000000",
+            "EveryInk 0000000000000000 moved",
         ),
         (
             31,
             "Separation none, tint 1",
             "CMYK 0000000000000000 3fe0000000000000 3ff0000000000000 3fd0000000000000",
         ),
-        (31, "Indexed over Separation None, index 3.5", "NoMark"),
+        (
+            31,
+            "Indexed over Separation None, index 3.5",
+            "NoMark moved",
+        ),
+        (31, "Indexed over Separation None, index 3", "NoMark"),
         (
             31,
             "Indexed over Separation All, index 1",
@@ -360,6 +372,112 @@ fn group_replies_worked_by_hand() {
     assert_eq!(reply_of(31, byte), answer_text(&Answer::Gray(0.709804)));
     let room = "hival 255 over CMYK, 1045 words into 1046";
     assert!(reply_of(32, room).starts_with("words 1045 kept 1 2 4 255 0 "));
+}
+
+/// Whether something was moved, worked by hand: the label of a case of operation 31, and of its recipe's run, or of a run.
+#[test]
+fn what_moves_by_hand() {
+    for (label, moved) in [
+        ("DeviceGray at its low ends", false),
+        ("DeviceGray at its high ends", false),
+        (
+            "DeviceGray at its low ends but component 0, -0.000001",
+            true,
+        ),
+        (
+            "DeviceGray at its high ends but component 0, 1.000001",
+            true,
+        ),
+        (
+            "DeviceCMYK at its high ends but component 3, 1.000001",
+            true,
+        ),
+        (
+            "CalRGB 1.8 at its low ends but component 2, -0.000001",
+            true,
+        ),
+        ("Lab at its low ends", false),
+        ("Lab at its high ends", false),
+        ("Lab at its low ends but component 1, -7.000001", true),
+        ("Lab at its high ends but component 2, 0.000007", true),
+        ("Lab ranges of one, on it", false),
+        ("Lab ranges of one, b* below", true),
+        ("Lab ranges of all numbers, at the ends", false),
+        ("hival 3, limiting index 3.4", false),
+        ("hival 3, limiting index 3.499999", false),
+        ("hival 3, limiting index 3.5", true),
+        ("hival 3, limiting index -0.5", false),
+        ("hival 3, limiting index -0.500001", true),
+        ("hival 0, limiting index 0.499999", false),
+        ("hival 0, limiting index 0.5", true),
+        ("limiting tint 0 of 0.25 to 0.75", false),
+        ("limiting tint 1 of 0.25 to 0.75", false),
+        ("limiting tint 1.000001 of 0.25 to 0.75", true),
+        ("limiting tint 0 of -1 to 3", true),
+        ("limiting tint 0.25 of -1 to 3", false),
+        ("limiting tint 0.5 of -1 to 3", false),
+        ("limiting tint 0.500001 of -1 to 3", true),
+        ("the last of CMYK to 1.000004, tint 0.353552", false),
+        ("the last of CMYK to 1.000004, tint 0.353553", true),
+        ("a tint over Lab of -100..100, tint 1", false),
+        ("a tint over Lab of 0..50 and -100..0, tint 0.5", false),
+        ("a tint over Lab of 0..50 and -100..0, tint 0.500001", true),
+        ("Indexed over tints of 0.4 then 2, index 0", false),
+        ("Indexed over tints of 0.4 then 2, index -1", true),
+        ("Indexed over tints of 0.4 then 2, index 1", true),
+        ("Indexed over tints of 2 then 0.4, index 1.499999", false),
+        ("Indexed over tints of 2 then 0.4, index 1.5", true),
+        ("limiting an index over Lab, index 3", false),
+        ("limiting an index over Lab, index 3.5", true),
+        ("limiting None, tint the greatest number", false),
+        ("limiting All, tint 1", false),
+        ("limiting All, tint 1.000001", true),
+        ("limiting an index over None, index 3.4", false),
+        ("limiting an index over None, index 3.5", true),
+        ("limiting an index over All, index -0.5", false),
+        ("limiting an index over All, index -0.500001", true),
+    ] {
+        let on_page = reply_of(31, label);
+        assert_eq!(on_page.ends_with(" moved"), moved, "{label}");
+        assert!(!on_page.starts_with("refused"), "{label}");
+        let by_recipe = reply_of(33, &format!("{label}, by its recipe"));
+        assert_eq!(by_recipe, on_page, "{label}");
+    }
+    for (label, moved) in [
+        ("limiting, no step", false),
+        ("limiting, a limit at its high end", false),
+        ("limiting, a limit above", true),
+        ("limiting, a limit of a value not given, 0 within", false),
+        ("limiting, a limit of a value not given, 0 below", true),
+        ("limiting, two limits, the first moves", true),
+        ("limiting, two limits, there and back", true),
+        ("limiting, a limit that moves, then rows that do not", true),
+        (
+            "limiting, a limit that does not, then rows that do not",
+            false,
+        ),
+        ("limiting, rows of one and 0.499999", false),
+        ("limiting, rows of one and 0.5", true),
+        ("limiting, a tint at 1, its result beyond", false),
+        ("limiting, a tint above 1", true),
+        ("limiting, a limit that moves, then no mark", true),
+        ("limiting, every ink as it stands", false),
+        ("no limiting by gamma 1.8, 1.000001", false),
+        ("no limiting by gamma 2, the least number", false),
+        ("a limit before gamma 1.8, 1.000001", true),
+        ("a limit before gamma 1.8, 1", false),
+        ("no limiting by gammas 1.8 2.2 0.1", false),
+        ("no limiting by Lab's closing step", false),
+        ("nothing moved by 11", false),
+    ] {
+        assert_eq!(reply_of(33, label).ends_with(" moved"), moved, "{label}");
+    }
+    // A refusal carries nothing.
+    for case in all() {
+        let reply = case.result().unwrap();
+        assert!(!(reply.starts_with("refused") && reply.ends_with("moved")));
+        assert!([31, 33].contains(&case.op) || !reply.contains("moved"));
+    }
 }
 
 #[test]
@@ -459,11 +577,14 @@ fn lines_have_the_agreed_form() {
     assert_eq!(case.output_line(), "a label: -246");
     assert!(input_text(&all()).contains("limit -1 to 0..10: 1 -1 0 10\n"));
     assert!(output_text(&all()).contains("limit -1 to 0..10: 0\n"));
-    let refused = Answer::Refused {
-        number: 7,
-        block: 63,
-    };
-    assert_eq!(answer_text(&refused), "refused 7 block 63");
+    assert_eq!(reply_text(&Err((7, 63))), "refused 7 block 63");
+    let answer = Answer::Gray(1.0);
+    for (moved, text) in [
+        (false, "Gray 3ff0000000000000"),
+        (true, "Gray 3ff0000000000000 moved"),
+    ] {
+        assert_eq!(reply_text(&Ok(Colour { answer, moved })), text);
+    }
     assert_eq!(answer_text(&Answer::Gray(1.0)), "Gray 3ff0000000000000");
     assert_eq!(answer_text(&Answer::NoMark), "NoMark");
     let every = answer_text(&Answer::EveryInk(1.0));

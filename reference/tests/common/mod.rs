@@ -1,7 +1,9 @@
-//! Records and pages that several tests use.
+//! Records, pages and replies that several tests use.
 #![allow(dead_code, unused_imports)]
 
 use reference::block::{write_block, Body, Record, BLOCK};
+use reference::cie::Answer;
+use reference::colour::{Colour, Reply};
 pub use reference::records::{palette, record, separation, WHITE};
 
 /// The paper's CalGray: white 0.9505 1 1.089, black 0, and this gamma in millionths.
@@ -35,6 +37,18 @@ pub fn lab(range: [i32; 4]) -> Body {
 /// A Lab with the clause's own range, -100..100.
 pub fn usual_lab() -> Body {
     lab([-100_000_000, 100_000_000, -100_000_000, 100_000_000])
+}
+
+/// The reply with this answer, nothing moved.
+pub fn kept(answer: Answer) -> Reply {
+    let moved = false;
+    Ok(Colour { answer, moved })
+}
+
+/// The reply with this answer, something moved.
+pub fn moved(answer: Answer) -> Reply {
+    let moved = true;
+    Ok(Colour { answer, moved })
 }
 
 /// The block of a record that is accepted by itself.

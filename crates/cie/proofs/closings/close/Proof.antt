@@ -3,8 +3,9 @@ use mathlib.Core.Path.{ap, _∙_}
 use mathlib.Core.List.{[], _∷_}
 use Rattle.fixed.specs.Numbers.{float}
 use Rattle.fixed.proofs.Signs.{signed-back}
+use Rattle.cie.specs.declared.Xyz.{Xyz}
 use Rattle.cie.specs.Answers.{answer, inGray, inRgb, inCmyk, everyInk}
-use Rattle.cie.specs.Closings.{closed, inThree, calGrayOf, calRgbOf, calLabOf}
+use Rattle.cie.specs.Closings.{closedBy, inThree, calGrayOf, calRgbOf, calLabOf}
 use borrow.Author.Needs.{needs}
 use Rattle.cie.proofs.closings.close.Statement.{statement}
 use Rattle.cie.proofs.closings.close.Tie as tie
@@ -73,61 +74,61 @@ float-of-requires-9 : tie.Need-float-of-requires-9
 float-of-requires-9 c κs = search needs
 
 returns : tie.Need-returns
-unfolding closed
-returns c = rw (c .enum-told .given .1)
+unfolding closedBy
+returns c = λ m. rw (c .enum-told .given .1)
 
 returns-2 : tie.Need-returns-2
-unfolding closed
+unfolding closedBy
 returns-2 c =
-    rw (c .before .enum-told2 .given .1)
-    (λ i. answer inGray ((c .float-of .ensures ∙ ap float (signed-back (c .before .before .before .fits .a))) i ∷ []))
+    λ m. rw (c .before .enum-told2 .given .1)
+    (λ i. answer inGray ((c .float-of .ensures ∙ ap float (signed-back (c .before .before .before .fits .a))) i ∷ []) m)
 
 returns-3 : tie.Need-returns-3
-unfolding closed
+unfolding closedBy
 returns-3 c =
     let f = c .before .before .before .before .before .fits in
-    rw (c .before .before .before .enum-told3 .given .1)
-    (λ i. answer inRgb ((c .before .before .float-of2 .ensures ∙ ap float (signed-back (f .a))) i ∷ (c .before .float-of3 .ensures ∙ ap float (signed-back (f .b))) i ∷ (c .float-of4 .ensures ∙ ap float (signed-back (f .c))) i ∷ []))
+    λ m. rw (c .before .before .before .enum-told3 .given .1)
+    (λ i. answer inRgb ((c .before .before .float-of2 .ensures ∙ ap float (signed-back (f .a))) i ∷ (c .before .float-of3 .ensures ∙ ap float (signed-back (f .b))) i ∷ (c .float-of4 .ensures ∙ ap float (signed-back (f .c))) i ∷ []) m)
 
 returns-4 : tie.Need-returns-4
-unfolding closed
+unfolding closedBy
 returns-4 c =
     let after-float-of6 = c .before .before in
     let after-float-of5 = after-float-of6 .before in
     let after-enum-told4 = after-float-of5 .before in
     let entry = after-enum-told4 .before .before in
     let f = entry .fits in
-    rw (after-enum-told4 .enum-told4 .given .1)
-    (λ i. answer inCmyk ((after-float-of5 .float-of5 .ensures ∙ ap float (signed-back (f .a))) i ∷ (after-float-of6 .float-of6 .ensures ∙ ap float (signed-back (f .b))) i ∷ (c .before .float-of7 .ensures ∙ ap float (signed-back (f .c))) i ∷ (c .float-of8 .ensures ∙ ap float (signed-back (f .d))) i ∷ []))
+    λ m. rw (after-enum-told4 .enum-told4 .given .1)
+    (λ i. answer inCmyk ((after-float-of5 .float-of5 .ensures ∙ ap float (signed-back (f .a))) i ∷ (after-float-of6 .float-of6 .ensures ∙ ap float (signed-back (f .b))) i ∷ (c .before .float-of7 .ensures ∙ ap float (signed-back (f .c))) i ∷ (c .float-of8 .ensures ∙ ap float (signed-back (f .d))) i ∷ []) m)
 
 returns-5 : tie.Need-returns-5
-unfolding closed
+unfolding closedBy
 returns-5 c =
-    rw (c .before .before .k .given .1) (ap inThree (c .close-gray .ensures ∙ (λ i. calGrayOf (c .before .before .k .given .0 .0) (signed-back (c .before .before .before .before .fits .a) i))))
+    λ m. rw (c .before .before .k .given .1) (ap (λ (p : Xyz). inThree p m) (c .close-gray .ensures ∙ (λ i. calGrayOf (c .before .before .k .given .0 .0) (signed-back (c .before .before .before .before .fits .a) i))))
 
 returns-6 : tie.Need-returns-6
-unfolding closed
+unfolding closedBy
 returns-6 c =
     let f = c .before .before .before .before .fits in
-    rw (c .before .before .k2 .given .1)
-    (ap inThree (c .close-rgb .ensures ∙ (λ i. calRgbOf (c .before .before .k2 .given .0 .0) (signed-back (f .a) i) (signed-back (f .b) i) (signed-back (f .c) i))))
+    λ m. rw (c .before .before .k2 .given .1)
+    (ap (λ (p : Xyz). inThree p m) (c .close-rgb .ensures ∙ (λ i. calRgbOf (c .before .before .k2 .given .0 .0) (signed-back (f .a) i) (signed-back (f .b) i) (signed-back (f .c) i))))
 
 returns-7 : tie.Need-returns-7
-unfolding closed
+unfolding closedBy
 returns-7 c =
     let f = c .before .before .before .before .fits in
-    rw (c .before .before .k3 .given .1)
-    (ap inThree (c .close-lab .ensures ∙ (λ i. calLabOf (c .before .before .k3 .given .0 .0) (signed-back (f .a) i) (signed-back (f .b) i) (signed-back (f .c) i))))
+    λ m. rw (c .before .before .k3 .given .1)
+    (ap (λ (p : Xyz). inThree p m) (c .close-lab .ensures ∙ (λ i. calLabOf (c .before .before .k3 .given .0 .0) (signed-back (f .a) i) (signed-back (f .b) i) (signed-back (f .c) i))))
 
 returns-8 : tie.Need-returns-8
-unfolding closed
-returns-8 c = rw (c .enum-told5 .given .1)
+unfolding closedBy
+returns-8 c = λ m. rw (c .enum-told5 .given .1)
 
 returns-9 : tie.Need-returns-9
-unfolding closed
+unfolding closedBy
 returns-9 c =
-    rw (c .before .enum-told6 .given .1)
-    (λ i. answer everyInk ((c .float-of9 .ensures ∙ ap float (signed-back (c .before .before .before .fits .a))) i ∷ []))
+    λ m. rw (c .before .enum-told6 .given .1)
+    (λ i. answer everyInk ((c .float-of9 .ensures ∙ ap float (signed-back (c .before .before .before .fits .a))) i ∷ []) m)
 
 pub close-spec : {M : Type 1} → statement M
 close-spec =

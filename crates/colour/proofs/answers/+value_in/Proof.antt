@@ -109,7 +109,7 @@ value-in-returns t c =
     let after-close-arg3 = c .before .before in
     let after-close-arg2 = after-close-arg3 .before in
     let after-close-arg = after-close-arg2 .before in
-    let after-limit-all = after-close-arg .before in
+    let after-limit-all = after-close-arg .before .before in
     let after-plain-highs = after-limit-all .before in
     let after-plain-lows = after-plain-highs .before in
     let after-limit-count = after-plain-lows .before in
@@ -118,8 +118,8 @@ value-in-returns t c =
     let q = after-l .l .given .0 .1 .0 in
     let m = after-limit-count .limit-count .ensures .0 ∙ whatever q k .2 in
     let u = after-limit-all .limit-all in
-    c .close .ensures ∙
-    closes _ (u .result) (signed-within _ (after-close-arg .close-arg .given)) (signed-within _ (after-close-arg2 .close-arg2 .given)) (signed-within _ (after-close-arg3 .close-arg3 .given)) (signed-within _ (c .before .close-arg4 .given)) ∙
+    c .close .ensures _ ∙
+    closes _ (u .result .values) _ (signed-within _ (after-close-arg .close-arg .given)) (signed-within _ (after-close-arg2 .close-arg2 .given)) (signed-within _ (after-close-arg3 .close-arg3 .given)) (signed-within _ (c .before .close-arg4 .given)) ∙
     value-plain _ _ k q (after-l .l .given .1) m
     (u .ensures (plainIn k q) (record { low = after-plain-lows .plain-lows .ensures; high = after-plain-highs .plain-highs .ensures }))
 

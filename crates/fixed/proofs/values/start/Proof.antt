@@ -1,8 +1,9 @@
 -- Each turn gives one more value; all of them are `given`.
 use mathlib.Core.Path.{_≡_, refl, _∙_}
+use mathlib.Core.Bool.{false}
 use Prim.Native.Nat.{_≤_, _-_}
 use native.Mathlib.Omega.{arith}
-use Rattle.fixed.specs.Values.{places, value, listed, filled}
+use Rattle.fixed.specs.Values.{places, value, listed, filled, given}
 use Rattle.fixed.proofs.Signs.{signed-is}
 use Rattle.fixed.proofs.Listed.{filled-turn}
 use borrow.Author.Needs.{needs}
@@ -39,7 +40,10 @@ loop-again c = (omega arith, filled-turn (value (c .before .before .before .args
 
 returns : tie.Need-returns Inv-loop μ-loop
 unfolding filled listed
-returns c = let e : c .before .loop .k ≡ places = omega arith in c .before .loop .inv .1 ∙ rw e
+returns c =
+    let e : c .before .loop .k ≡ places = omega arith in
+    let all : c .before .loop .v ≡ given places (c .before .before .args .components .now) = c .before .loop .inv .1 ∙ rw e in
+    λ i. record { values = all i; moved = false }
 
 pub start-spec : {M : Type 1} → statement M
 start-spec =

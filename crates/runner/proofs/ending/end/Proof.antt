@@ -43,10 +43,10 @@ returns-3 c =
     let after-close-arg3 = c .before .before in
     let after-close-arg2 = after-close-arg3 .before in
     let after-close-arg = after-close-arg2 .before in
-    let after-if2 = after-close-arg .before in
+    let after-if2 = after-close-arg .before .before in
     let after-if1 = after-if2 .before in
     simp (eq-eqb _ _ (after-if1 .if1 .left), eq-eqb _ _ (after-if2 .if2 .left))
-    (c .close .ensures ∙ closes _ _ (signed-within _ (after-close-arg .close-arg .given)) (signed-within _ (after-close-arg2 .close-arg2 .given)) (signed-within _ (after-close-arg3 .close-arg3 .given)) (signed-within _ (c .before .close-arg4 .given)))
+    (c .close .ensures _ ∙ closes _ _ _ (signed-within _ (after-close-arg .close-arg .given)) (signed-within _ (after-close-arg2 .close-arg2 .given)) (signed-within _ (after-close-arg3 .close-arg3 .given)) (signed-within _ (c .before .close-arg4 .given)))
 
 pub end-spec : {M : Type 1} → statement M
 end-spec =

@@ -34,14 +34,14 @@ returns c =
     let a = c .before .before .before .before .args in
     let s = c .before .before .s .given in
     let told = c .before .known-told .given in
-    c .limit-step .ensures ∙ (λ i. limitStep (s .0 .0) (signed-within (s .0 .1 .0) (told .1 .0 .1) i) (signed-within (s .0 .1 .1 .0) (told .1 .1 .0 .1) i) (a .v)) ∙
-    ap (stepped (a .l .now) (a .v)) (sym (s .1))
+    c .limit-step .ensures ∙ (λ i. limitStep (s .0 .0) (signed-within (s .0 .1 .0) (told .1 .0 .1) i) (signed-within (s .0 .1 .1 .0) (told .1 .1 .0 .1) i) (a .c)) ∙
+    ap (stepped (a .l .now) (a .c)) (sym (s .1))
 
 returns-2 : tie.Need-returns-2
-returns-2 c = c .row-step .ensures ∙ ap (stepped (c .before .before .before .before .args .l .now) (c .before .before .before .before .args .v)) (sym (c .before .before .s2 .given .1))
+returns-2 c = c .row-step .ensures ∙ ap (stepped (c .before .before .before .before .args .l .now) (c .before .before .before .before .args .c)) (sym (c .before .before .s2 .given .1))
 
 returns-3 : tie.Need-returns-3
-returns-3 c = c .tint-step .ensures ∙ ap (stepped (c .before .before .before .before .args .l .now) (c .before .before .before .before .args .v)) (sym (c .before .before .s3 .given .1))
+returns-3 c = c .tint-step .ensures ∙ ap (stepped (c .before .before .before .before .args .l .now) (c .before .before .before .before .args .c)) (sym (c .before .before .s3 .given .1))
 
 returns-4 : tie.Need-returns-4
 returns-4 c = search needs

@@ -7,6 +7,7 @@ use mir.Val.{toZ, ofZ}
 use Rattle.fixed.specs.Values.{value}
 use Rattle.fixed.proofs.Signs.{signed-within}
 use Rattle.fixed.proofs.Listed.{index-le}
+use Rattle.fixed.proofs.Steps.{row-made}
 use Rattle.runner.proofs.Ranges.{row-start}
 use Rattle.runner.proofs.Acts.{row-picked}
 use borrow.Author.Needs.{needs}
@@ -14,14 +15,14 @@ use Rattle.runner.proofs.steps.row_step.Statement.{statement}
 use Rattle.runner.proofs.steps.row_step.Tie as tie
 
 -- the entries of the rows before the one that is picked
-before-row : (c : tie.After-round-index) → c .round-index .result * c .before .before .args .m ≤ 1020
+before-row : (c : tie.After-round-index) → let entry = c .before .before .before in c .round-index .result * entry .args .m ≤ 1020
 before-row c =
-    let a = c .before .before .args in
-    let p = c .before .before .pre in
-    row-start (c .round-index .result) (a .m) (a .h) (index-le (c .round-index .result) (a .h) (toZ w32 (ofZ w32 (value (a .t4) 0))) (c .round-index .ensures)) (p .0) (p .1)
+    let entry = c .before .before .before in
+    let a = entry .args in
+    row-start (c .round-index .result) (a .m) (a .h) (index-le (c .round-index .result) (a .h) (toZ w32 (ofZ w32 (value (a .c .values) 0))) (c .round-index .ensures)) (entry .pre .0) (entry .pre .1)
 
-array-copy-out-round-index : tie.Need-array-copy-out-round-index
-array-copy-out-round-index c = search needs
+array-copy-out-x : tie.Need-array-copy-out-x
+array-copy-out-x c = search needs
 
 round-index-requires : tie.Need-round-index-requires
 round-index-requires c κs = search needs
@@ -36,22 +37,24 @@ add-fill-row : tie.Need-add-fill-row
 add-fill-row c = omega (arith, before-row c)
 
 fill-row-requires : tie.Need-fill-row-requires
-fill-row-requires c κs = (omega (arith, before-row c), c .before .before .pre .0)
+fill-row-requires c κs = (omega (arith, before-row c), c .before .before .before .pre .0)
+
+is-index-outside-requires : tie.Need-is-index-outside-requires
+is-index-outside-requires c κs = search needs
 
 returns : tie.Need-returns
-returns c =
-    let a = c .before .before .before .args in
-    c .fill-row .ensures ∙
-    row-picked (a .l .now) (a .t4) (a .m) (a .h) (c .before .round-index .result) _ (c .before .round-index .ensures) (signed-within (value (a .t4) 0) (c .before .before .round-index-arg .given))
+returns c = let a = c .before .before .before .before .before .args in let x = signed-within (value (a .c .values) 0) (c .before .before .before .x .given) in
+    row-made (a .c) (a .m) (a .h) _ _ (c .before .fill-row .ensures ∙ row-picked (a .l .now) (a .c .values) (a .m) (a .h) (c .before .before .round-index .result) _ (c .before .before .round-index .ensures) x) (c .is-index-outside .ensures) x
 
 pub row-step-spec : {M : Type 1} → statement M
 row-step-spec =
     tie.close
     (tie.spec
-    array-copy-out-round-index
+    array-copy-out-x
     round-index-requires
     cast-fill-row
     mul-fill-row
     add-fill-row
     fill-row-requires
+    is-index-outside-requires
     returns)
