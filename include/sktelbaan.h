@@ -1,7 +1,8 @@
 /* Sktelbaan: colour-space records of PDF (ISO 32000-1, clause 8.6).
  *
  * A page is 1 to 64 blocks of 512 bytes, each with the record of a colour space, a part of a palette, or nothing. Here are all operations: validating a page,
- * evaluating a colour of one of its spaces, writing the recipe of a space, running a recipe, writing and reading a block by itself. Link libsktelbaan.a.
+ * evaluating a colour of one of its spaces, writing the recipe of a space, running a recipe, asking for an ink by its name, writing and reading a block by
+ * itself. Link libsktelbaan.a.
  *
  * How a reply is read, what may be passed and what a caller owes is told in sktelbaan_runner.h, with the refusals.
  *
@@ -45,6 +46,37 @@ uint64_t sktelbaan_evaluate(const uint8_t *page, size_t page_len, uint32_t numbe
 /* Writes the recipe of the space at a number of a page. Refuses with 1 to 8, then 10; SKTELBAAN_MOST_WORDS words are always enough. Gives how many words the
  * recipe is, from the first of `words` on; those beyond stay as they were. */
 uint64_t sktelbaan_write_recipe(const uint8_t *page, size_t page_len, uint32_t number, int32_t *words, size_t words_len) SKTELBAAN_NEVER_NULL;
+
+/* Asks for an ink, a Separation, by its name, of two pages: the job's page and the house page. Refuses with 1 to 7 of the job's page, then of the house page, then
+ * with 8 where neither has an ink of that name. Gives the page and the block that it was found in: the lowest block of the job's page that has the name, else
+ * the lowest of the house page. `name` is compared byte by byte, with its length, and may be any bytes.
+ *
+ * The reply is read by sktelbaan_refusal, and then by sktelbaan_ink_page and sktelbaan_ink_block, whether it was found or refused: these two take the place of
+ * sktelbaan_value and sktelbaan_block here, since a page and a block share the reply's high half. `place` says where the name stands on its page: place[0] bytes
+ * stand before it, and it has place[1]. On a refusal `place` stays as it was.
+ *
+ *     uint32_t place[2];
+ *     uint64_t reply = sktelbaan_find_ink(job, job_len, house, house_len, (const uint8_t *)"Gold", 4, place);
+ *     if (sktelbaan_refusal(reply) == 0)
+ *         use(sktelbaan_ink_name(job, house, reply, place), place[1]);
+ */
+uint64_t sktelbaan_find_ink(const uint8_t *job, size_t job_len, const uint8_t *house, size_t house_len, const uint8_t *name, size_t name_len, uint32_t place[2]) SKTELBAAN_NEVER_NULL;
+
+/* The page that a reply of sktelbaan_find_ink is about. A refusal with 8 is of neither. */
+enum { SKTELBAAN_NEITHER_PAGE = 0, SKTELBAAN_JOB_PAGE = 1, SKTELBAAN_HOUSE_PAGE = 2 };
+
+/* The page that an ink was found on, or that is refused. */
+static inline uint32_t sktelbaan_ink_page(uint64_t reply) { return (uint32_t)(reply >> 48); }
+
+/* The block that it was found in, or that the refusal is about; 0 where it is about none. */
+static inline uint32_t sktelbaan_ink_block(uint64_t reply) { return (uint32_t)(reply >> 32) & 0xFFFF; }
+
+/* The first byte of the name of an ink that was found, where it stands on its page; NULL where it was refused. */
+static inline const uint8_t *sktelbaan_ink_name(const uint8_t *job, const uint8_t *house, uint64_t reply, const uint32_t place[2]) {
+    if (sktelbaan_refusal(reply) != 0)
+        return NULL;
+    return (sktelbaan_ink_page(reply) == SKTELBAAN_JOB_PAGE ? job : house) + place[0];
+}
 
 /* The kinds of a record. */
 enum sktelbaan_kinds {
@@ -97,6 +129,11 @@ static inline uint64_t sktelbaan_write_recipe_lending(const uint8_t *page, size_
     return sktelbaan_write_recipe(page_len != 0 ? page : &no_page, page_len, number, words_len != 0 ? words : &no_word, words_len);
 }
 
+static inline uint64_t sktelbaan_find_ink_lending(const uint8_t *job, size_t job_len, const uint8_t *house, size_t house_len, const uint8_t *name, size_t name_len, uint32_t place[2]) {
+    const uint8_t none = 0;
+    return sktelbaan_find_ink(job_len != 0 ? job : &none, job_len, house_len != 0 ? house : &none, house_len, name_len != 0 ? name : &none, name_len, place);
+}
+
 static inline uint64_t sktelbaan_write_block_lending(const int32_t numbers[20], const uint8_t bytes[504], uint8_t *block, size_t block_len) {
     uint8_t none = 0;
     return sktelbaan_write_block(numbers, bytes, block_len != 0 ? block : &none, block_len);
@@ -110,6 +147,7 @@ static inline uint64_t sktelbaan_read_block_lending(const uint8_t *block, size_t
 #define sktelbaan_validate sktelbaan_validate_lending
 #define sktelbaan_evaluate sktelbaan_evaluate_lending
 #define sktelbaan_write_recipe sktelbaan_write_recipe_lending
+#define sktelbaan_find_ink sktelbaan_find_ink_lending
 #define sktelbaan_write_block sktelbaan_write_block_lending
 #define sktelbaan_read_block sktelbaan_read_block_lending
 

@@ -71,7 +71,7 @@ enum sktelbaan_refusals {
     /* An Indexed space has too few palette blocks straight after it, or its palette's spare bytes are not zero; a palette block belongs to no Indexed space;
      * or C0 or C1 of a Separation has a number other than 0 beyond what its alternate space has components. */
     SKTELBAAN_REFUSED_PALETTE = 7,
-    /* The number asked for is neither a device code nor a block that holds a space, kinds 1 to 5. */
+    /* The number asked for is neither a device code nor a block that holds a space, kinds 1 to 5; or, of an ink asked for by its name, neither page has one. */
     SKTELBAAN_REFUSED_SPACE = 8,
     /* More or fewer components were given than the space or the recipe takes. */
     SKTELBAAN_REFUSED_COUNT = 9,
@@ -91,7 +91,7 @@ static inline const char *sktelbaan_refusal_text(uint32_t refusal) {
         "a gamma that is not 0.1 to 4.0 in whole tenths, or an exponent that is not 1 to 4",
         "a reference to no block of the page, or to a kind that may not be used there",
         "a palette too short, with spare bytes not zero, or of no Indexed space; or C0 or C1 longer than the alternate's colours",
-        "the number asked for is neither a device code nor a block with a space",
+        "the number asked for is neither a device code nor a block with a space; or neither page has an ink of that name",
         "the wrong number of components",
         "too few words for the recipe, or not 512 bytes for a block",
         "the words are not a well-formed recipe",

@@ -1,5 +1,5 @@
-/* The edges of the C interface, checked: lists of none, the parts of a reply, answers of each kind, colours pulled in, refusals in words, sizes, a record of
- * each kind. It is compiled as C and as C++, with the compiler's checks of addresses and of undefined behaviour, and prints what is not as it should be. */
+/* The edges of the C interface, checked: lists of none, the parts of a reply, answers of each kind, colours pulled in, inks by name, refusals in words, sizes, a
+ * record of each kind. It is compiled as C and as C++, with the compiler's checks of addresses and of undefined behaviour, and prints what is not as it should be. */
 #include <stdio.h>
 #include <string.h>
 
@@ -14,6 +14,9 @@ static void expect(const char *what, int holds) {
     }
 }
 
+/* A reply of sktelbaan_find_ink that refuses a page as a whole. */
+static uint64_t refused(uint32_t number, uint32_t page) { return (uint64_t)page << 48 | number; }
+
 /* Each list may be NULL where it has nothing in it. */
 static void none(void) {
     static const uint8_t page[SKTELBAAN_BLOCK_BYTES] = {0};
@@ -27,6 +30,7 @@ static void none(void) {
     int32_t read[SKTELBAAN_RECORD_NUMBERS], read_before[SKTELBAAN_RECORD_NUMBERS];
     uint8_t room[SKTELBAAN_RECORD_BYTES], room_before[SKTELBAAN_RECORD_BYTES];
     uint32_t gray = SKTELBAAN_DEVICE_GRAY;
+    uint32_t place[2] = {7, 8};
     memcpy(floats_before, floats, sizeof floats);
     memset(read, 0x55, sizeof read);
     memset(room, 0x55, sizeof room);
@@ -43,10 +47,15 @@ static void none(void) {
     expect("run, no words", sktelbaan_run(NULL, 0, colour, 1, floats) == SKTELBAAN_REFUSED_RECIPE);
     expect("run, no components", sktelbaan_run(recipe, 2, NULL, 0, floats) == SKTELBAAN_REFUSED_COUNT);
     expect("run, neither", sktelbaan_run(NULL, 0, NULL, 0, floats) == SKTELBAAN_REFUSED_RECIPE);
+    expect("find_ink, no job's page", sktelbaan_find_ink(NULL, 0, page, sizeof page, page, 1, place) == refused(SKTELBAAN_REFUSED_LENGTH, SKTELBAAN_JOB_PAGE));
+    expect("find_ink, no house page", sktelbaan_find_ink(page, sizeof page, NULL, 0, page, 1, place) == refused(SKTELBAAN_REFUSED_LENGTH, SKTELBAAN_HOUSE_PAGE));
+    expect("find_ink, no name", sktelbaan_find_ink(page, sizeof page, page, sizeof page, NULL, 0, place) == refused(SKTELBAAN_REFUSED_SPACE, SKTELBAAN_NEITHER_PAGE));
+    expect("find_ink, none of them", sktelbaan_find_ink(NULL, 0, NULL, 0, NULL, 0, place) == refused(SKTELBAAN_REFUSED_LENGTH, SKTELBAAN_JOB_PAGE));
     expect("write_block, no block", sktelbaan_write_block(numbers, bytes, NULL, 0) == SKTELBAAN_REFUSED_ROOM);
     expect("read_block, no block", sktelbaan_read_block(NULL, 0, read, room) == SKTELBAAN_REFUSED_ROOM);
 
     expect("floats stay", memcmp(floats, floats_before, sizeof floats) == 0);
+    expect("place stays", place[0] == 7 && place[1] == 8);
     expect("words stay", words[0] == 7 && words[1] == 8);
     expect("numbers stay", memcmp(read, read_before, sizeof read) == 0);
     expect("bytes stay", memcmp(room, room_before, sizeof room) == 0);
@@ -134,6 +143,41 @@ static void pulled_in(void) {
     expect("the top bit of a refusal", sktelbaan_moved((uint64_t)1 << 63 | 9) == 0);
 }
 
+/* A block of a page that holds a Separation of this name over DeviceGray. */
+static void put_ink(uint8_t *page, int32_t number, const char *name) {
+    const int32_t numbers[SKTELBAAN_RECORD_NUMBERS] = {number, SKTELBAAN_KIND_SEPARATION, SKTELBAAN_DEVICE_GRAY, 1, (int32_t)strlen(name)};
+    uint8_t bytes[SKTELBAAN_RECORD_BYTES] = {0};
+    memcpy(bytes, name, strlen(name));
+    expect("an ink is written", sktelbaan_write_block(numbers, bytes, page + number * SKTELBAAN_BLOCK_BYTES, SKTELBAAN_BLOCK_BYTES) == 0);
+}
+
+/* An ink by its name: page, block and place, on either page; a refusal says which page, and leaves the place. */
+static void inks(void) {
+    static uint8_t job[2 * SKTELBAAN_BLOCK_BYTES], house[3 * SKTELBAAN_BLOCK_BYTES];
+    const uint8_t *gold = (const uint8_t *)"Gold";
+    const uint8_t *varnish = (const uint8_t *)"Varnish";
+    uint32_t place[2] = {0, 0};
+    put_ink(job, 0, "Goldfish");
+    put_ink(job, 1, "Gold");
+    put_ink(house, 0, "Gold");
+    put_ink(house, 1, "Silver");
+    put_ink(house, 2, "Varnish");
+
+    uint64_t reply = sktelbaan_find_ink(job, sizeof job, house, sizeof house, gold, 4, place);
+    expect("in the job's page", sktelbaan_refusal(reply) == 0 && sktelbaan_ink_page(reply) == SKTELBAAN_JOB_PAGE && sktelbaan_ink_block(reply) == 1);
+    expect("its place there", sktelbaan_ink_name(job, house, reply, place) == job + place[0] && place[1] == 4 && memcmp(job + place[0], "Gold", 5) == 0);
+    reply = sktelbaan_find_ink(job, sizeof job, house, sizeof house, varnish, 7, place);
+    expect("in the house page", sktelbaan_refusal(reply) == 0 && sktelbaan_ink_page(reply) == SKTELBAAN_HOUSE_PAGE && sktelbaan_ink_block(reply) == 2);
+    expect("its place in the house page", sktelbaan_ink_name(job, house, reply, place) == house + place[0] && place[1] == 7 && memcmp(house + place[0], "Varnish", 8) == 0);
+    reply = sktelbaan_find_ink(job, sizeof job, house, sizeof house, varnish, 6, place);
+    expect("in neither", sktelbaan_refusal(reply) == SKTELBAAN_REFUSED_SPACE && sktelbaan_ink_page(reply) == SKTELBAAN_NEITHER_PAGE && sktelbaan_ink_block(reply) == 0);
+    expect("no name", sktelbaan_ink_name(job, house, reply, place) == NULL);
+    house[3 * SKTELBAAN_BLOCK_BYTES - 1] ^= 1;
+    reply = sktelbaan_find_ink(job, sizeof job, house, sizeof house, gold, 4, place);
+    expect("the house page refused", sktelbaan_refusal(reply) == SKTELBAAN_REFUSED_CHECK && sktelbaan_ink_page(reply) == SKTELBAAN_HOUSE_PAGE && sktelbaan_ink_block(reply) == 2);
+    expect("the place stays", place[1] == 7);
+}
+
 /* Every refusal has a text of its own, and no other number has one. */
 static void texts(void) {
     const char *other = sktelbaan_refusal_text(0);
@@ -206,6 +250,7 @@ int main(void) {
     replies();
     answers();
     pulled_in();
+    inks();
     texts();
     sizes();
     records();

@@ -3,7 +3,8 @@
 //!
 //! A page is 1 to 64 blocks of 512 bytes. Its spaces are asked for by their block's number, and the
 //! device spaces by [`DEVICE_GRAY`], [`DEVICE_RGB`] and [`DEVICE_CMYK`]. A block by itself is written
-//! by [`write_block`] and read by [`read_block`]. Components are signed counts
+//! by [`write_block`] and read by [`read_block`]. An ink is asked for by its name with [`find_ink`], of
+//! the job's page and the house page. Components are signed counts
 //! of millionths: 1.0 is 1000000. Any input gets a reply: a page or a recipe may be broken in any way.
 //!
 //! ```
@@ -26,9 +27,11 @@
 
 use std::fmt;
 
+mod ink;
 mod raw;
 mod record;
 
+pub use ink::{find_ink, Ink, InkPage, InkRefusal};
 pub use record::{read_block, read_numbers, write_block, write_numbers, Body, Record};
 
 /// The number that asks for DeviceGray.
@@ -180,7 +183,7 @@ const MEANINGS: [&str; 11] = [
     "a gamma that is not 0.1 to 4.0 in whole tenths, or an exponent that is not 1 to 4",
     "a reference to no block of the page, or to a kind that may not be used there",
     "a palette too short, with spare bytes not zero, or of no Indexed space; or C0 or C1 longer than the alternate's colours",
-    "the number asked for is neither a device code nor a block with a space",
+    "the number asked for is neither a device code nor a block with a space; or neither page has an ink of that name",
     "the wrong number of components",
     "too few words for the recipe, or not 512 bytes for a block",
     "the words are not a well-formed recipe",

@@ -30,6 +30,16 @@ extern "C" {
         floats: *mut f64,
     ) -> u64;
 
+    pub fn sktelbaan_find_ink(
+        job: *const u8,
+        job_len: usize,
+        house: *const u8,
+        house_len: usize,
+        name: *const u8,
+        name_len: usize,
+        place: *mut u32,
+    ) -> u64;
+
     pub fn sktelbaan_write_block(
         numbers: *const i32,
         bytes: *const u8,

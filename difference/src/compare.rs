@@ -17,7 +17,7 @@ fn hex_of_words(words: &[i32]) -> String {
 }
 
 /// The difference between two replies, where there is one.
-fn same<T: PartialEq + Debug>(
+pub(crate) fn same<T: PartialEq + Debug>(
     operation: &'static str,
     library: &T,
     reference: &T,

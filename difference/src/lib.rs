@@ -5,15 +5,24 @@
 
 pub mod compare;
 pub mod fast;
+pub mod inks;
 pub mod inputs;
 
 use reference::block as other;
 use reference::cie::Answer as Expected;
-use sktelbaan::{Answer, Body, Colour, Record, Refusal};
+use reference::inks::Which;
+use sktelbaan::{Answer, Body, Colour, InkPage, InkRefusal, Record, Refusal};
 use std::fmt;
+use std::ops::Range;
 
 /// What an operation replies.
 pub type Reply<T> = Result<T, Refusal>;
+
+/// Where an ink was found: its page, its block, and which bytes of the page are its name.
+pub type Found = (InkPage, u32, Range<usize>);
+
+/// What asking for an ink replies.
+pub type InkReply = Result<Found, InkRefusal>;
 
 /// The operations that are compared.
 #[derive(Clone, Copy)]
@@ -26,6 +35,8 @@ pub struct Library {
     pub write_recipe: fn(&[u8], u32, &mut [i32]) -> Reply<usize>,
     /// Runs a recipe on a colour.
     pub run: fn(&[i32], &[i32]) -> Reply<Colour>,
+    /// Asks for an ink by its name, of the job's page and the house page.
+    pub find_ink: fn(&[u8], &[u8], &[u8]) -> InkReply,
     /// Writes a record as a block.
     pub write_block: fn(&Record) -> Reply<[u8; 512]>,
     /// Reads the record of a block.
@@ -40,6 +51,14 @@ pub const PROVED: Library = Library {
     evaluate: sktelbaan::evaluate,
     write_recipe: sktelbaan::write_recipe,
     run: sktelbaan::run,
+    find_ink: |job, house, name| {
+        let ink = sktelbaan::find_ink(job, house, name)?;
+        let on = match ink.page {
+            InkPage::Job => job,
+            InkPage::House => house,
+        };
+        Ok((ink.page, ink.block, bytes_in(on, ink.name)))
+    },
     write_block: sktelbaan::write_block,
     read_block: sktelbaan::read_block,
     write_numbers: sktelbaan::write_numbers,
@@ -59,6 +78,23 @@ pub const REFERENCE: Library = Library {
         reference::recipe::write(page, number, words).map_err(refusal_of)
     },
     run: |words, components| colour_of(reference::runner::run(words, components)),
+    find_ink: |job, house, name| {
+        let page_of = |which| match which {
+            Which::Job => Some((InkPage::Job, job)),
+            Which::House => Some((InkPage::House, house)),
+            Which::Neither => None,
+        };
+        let refused = |number, which, block| InkRefusal {
+            refusal: Refusal { number, block },
+            page: page_of(which).map(|(page, _)| page),
+        };
+        let ink = reference::inks::find(job, house, name)
+            .map_err(|none| refused(none.number, none.page, none.block))?;
+        match page_of(ink.page) {
+            Some((page, on)) => Ok((page, ink.block, bytes_in(on, ink.name))),
+            None => Err(refused(0, Which::Neither, ink.block)),
+        }
+    },
     write_block: |record| {
         let mut block = [0; 512];
         other::write_block(&theirs(record), &mut block)
@@ -85,6 +121,12 @@ pub const FAST: Library = Library {
     run: |words, components| colour_of(fast::run(words, components)),
     ..REFERENCE
 };
+
+/// Which bytes of a page a part of it is, by where the two stand in memory.
+fn bytes_in(page: &[u8], part: &[u8]) -> Range<usize> {
+    let from = (part.as_ptr() as usize).wrapping_sub(page.as_ptr() as usize);
+    from..from.wrapping_add(part.len())
+}
 
 /// A refusal of a block by itself, which names no block.
 fn lone(number: u32) -> Refusal {

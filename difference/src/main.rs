@@ -1,7 +1,7 @@
 //! `difference [SEED] [--pages N]`: compares the proved library with the second implementation on
 //! random input, and stops at the first difference. The seed is the clock's where none is given.
 
-use difference::{compare, Difference, PROVED};
+use difference::{compare, inks, Difference, PROVED};
 use reference::generate::Rng;
 use std::process::ExitCode;
 use std::time::{Instant, SystemTime, UNIX_EPOCH};
@@ -28,7 +28,7 @@ fn asked(words: impl Iterator<Item = String>) -> Option<(u64, u64)> {
 }
 
 /// All the comparisons: for each page validated two colours, two runs of a written recipe, two lists,
-/// two records, two lists of any numbers as records, and two blocks.
+/// two inks, two records, two lists of any numbers as records, and two blocks.
 fn compare(seed: u64, pages: u64) -> Result<(), Difference> {
     let rng = &mut Rng::new(seed);
     let library = &PROVED;
@@ -39,6 +39,7 @@ fn compare(seed: u64, pages: u64) -> Result<(), Difference> {
     println!("the longest recipe {} words", recipes.longest);
     println!("recipe, run, evaluate {}", recipes.run);
     println!("run {}", compare::run(library, rng, 2 * pages)?);
+    println!("find_ink {}", inks::find_ink(library, rng, 2 * pages)?);
     println!(
         "write_block {}",
         compare::write_block(library, rng, 2 * pages)?

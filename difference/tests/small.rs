@@ -1,9 +1,9 @@
 //! The comparisons with small counts: the proved library agrees, and idle or faulty ones are caught.
 
-use difference::{compare, Library, PROVED, REFERENCE};
+use difference::{compare, inks, Library, PROVED, REFERENCE};
 use reference::generate::Rng;
 use reference::page::{family, Family};
-use sktelbaan::{Answer, Colour, Refusal};
+use sktelbaan::{Answer, Colour, InkPage, InkRefusal, Refusal};
 
 /// How many pages are compared: fewer where the tests are not built for speed.
 const PAGES: u64 = if cfg!(debug_assertions) { 1_000 } else { 4_000 };
@@ -79,6 +79,105 @@ fn records_and_blocks_are_written_and_read_alike() {
     for number in (2..=6).chain([10]) {
         assert!(tally.refused[number] > 0, "refusal {number} was never met");
     }
+}
+
+#[test]
+fn inks_are_found_alike() {
+    let inks = inks::find_ink(&PROVED, &mut Rng::new(9), 8 * PAGES).unwrap();
+    assert!(inks.replies.total() >= 8 * PAGES && inks.replies.accepted > 2 * PAGES);
+    for number in 1..=8 {
+        let count = inks.replies.refused[number];
+        assert!(count > 0, "refusal {number} was never met");
+    }
+    assert!(inks.found.iter().all(|count| *count > PAGES / 2));
+    assert!(inks.refused.iter().all(|count| *count > PAGES / 8));
+}
+
+#[test]
+fn faults_of_inks_are_caught() {
+    let caught = |library: &Library| inks::find_ink(library, &mut Rng::new(10), 4_000).is_err();
+    assert!(!caught(&REFERENCE));
+    // Refuses everything.
+    let refusing = Library {
+        find_ink: |_, _, _| {
+            Err(InkRefusal {
+                refusal: refusal(8),
+                page: None,
+            })
+        },
+        ..REFERENCE
+    };
+    assert!(caught(&refusing));
+    // The house page first.
+    let swapped = Library {
+        find_ink: |job, house, name| {
+            let other = |page| match page {
+                InkPage::Job => InkPage::House,
+                InkPage::House => InkPage::Job,
+            };
+            match (REFERENCE.find_ink)(house, job, name) {
+                Ok((page, block, bytes)) => Ok((other(page), block, bytes)),
+                Err(_) => (REFERENCE.find_ink)(job, house, name),
+            }
+        },
+        ..REFERENCE
+    };
+    assert!(caught(&swapped));
+    // One byte too many.
+    let long = Library {
+        find_ink: |job, house, name| {
+            let (page, block, bytes) = (REFERENCE.find_ink)(job, house, name)?;
+            Ok((page, block, bytes.start..bytes.end + 1))
+        },
+        ..REFERENCE
+    };
+    assert!(caught(&long));
+    // Names in either case, and names without their last zero byte.
+    let lax = Library {
+        find_ink: |job, house, name| {
+            let reply = (REFERENCE.find_ink)(job, house, name);
+            reply.or_else(|_| (REFERENCE.find_ink)(job, house, &name.to_ascii_uppercase()))
+        },
+        ..REFERENCE
+    };
+    assert!(caught(&lax));
+    let cut = Library {
+        find_ink: |job, house, name| {
+            let name = name.strip_suffix(&[0]).unwrap_or(name);
+            (REFERENCE.find_ink)(job, house, name)
+        },
+        ..REFERENCE
+    };
+    assert!(caught(&cut));
+    // A palette block of the job's page with the bytes of an ink.
+    let like_an_ink = Library {
+        find_ink: |job, house, name| {
+            let reply = (REFERENCE.find_ink)(job, house, name);
+            let is_like = |block: &[u8]| {
+                let size = usize::from(block[7]);
+                block[0] == 6 && size == name.len() && block[8..].starts_with(name)
+            };
+            let judged = !matches!(reply, Err(none) if none.page.is_some());
+            match job.chunks_exact(512).position(is_like) {
+                Some(block) if judged => {
+                    let from = 512 * block + 8;
+                    Ok((InkPage::Job, block as u32, from..from + name.len()))
+                }
+                _ => reply,
+            }
+        },
+        ..REFERENCE
+    };
+    assert!(caught(&like_an_ink));
+    // The house page's refusal only where it is looked at.
+    let lazy = Library {
+        find_ink: |job, house, name| {
+            let reply = (REFERENCE.find_ink)(job, job, name);
+            reply.or_else(|_| (REFERENCE.find_ink)(job, house, name))
+        },
+        ..REFERENCE
+    };
+    assert!(caught(&lazy));
 }
 
 /// A colour that an idle library gives.

@@ -13,6 +13,7 @@
 //! | 32 | number length xPAGE | the recipe written into as many words, each 7: `words N` or `refused N block B`, ` kept` where the words past the recipe (all on a refusal) are 7 still, then the recipe |
 //! | 33 | count COMPONENTS xWORDS | the answer of a recipe, whose words have four bytes each |
 //! | 34 | xPAGE | the listing, its lines joined by `; ` |
+//! | 35 | length length xPAGEPAGENAME | an ink by its name, of the job's page and the house page, whose lengths stand first: `found PAGE block B byte P` and `x` with the name's own bytes, or `refused N PAGE block B` |
 //!
 //! An answer is what it is in, `Gray`, `RGB`, `CMYK`, `XYZ`, `NoMark` or `EveryInk`, and its floats, 16 hexadecimal
 //! digits each; after operations 31 and 33 then ` moved` where a limiting moved something. Or it is `refused N block B`.
@@ -28,6 +29,7 @@ mod blocks;
 mod colours;
 mod format;
 mod forms;
+mod inks;
 mod interpreter;
 mod maker;
 mod marks;
@@ -43,7 +45,7 @@ mod tests;
 pub use format::{answer_text, dotted, float_text, hex_of, reply_text, Case};
 
 /// All the worked cases, in the order in which they are put to the program: the paper's own, numbers and steps,
-/// one block by itself, pages, colours with their recipes, the Separations None and All, and colours that are pulled in.
+/// one block by itself, pages, colours with their recipes, the Separations None and All, colours that are pulled in, and inks by name.
 pub fn all() -> Vec<Case> {
     let groups = [
         paper::cases,
@@ -56,6 +58,7 @@ pub fn all() -> Vec<Case> {
         runs::cases,
         marks::cases,
         moved::cases,
+        inks::cases,
     ];
     groups.iter().flat_map(|make| make()).collect()
 }

@@ -5,7 +5,7 @@
 //! quoted above it, and nothing is done for speed. The operations take any input whatever and come back with a reply.
 //!
 //! Document 01's order: [`numbers`], [`block`], [`page`], [`cie`], [`colour`], [`recipe`], [`runner`], [`listing`];
-//! document 02's: [`gamma`].
+//! document 02's: [`gamma`], [`inks`].
 //! The rest serves tests and texts: [`generate`], [`records`], [`cases`], [`samples`].
 #![forbid(unsafe_code)]
 
@@ -15,6 +15,7 @@ pub mod cie;
 pub mod colour;
 pub mod gamma;
 pub mod generate;
+pub mod inks;
 pub mod listing;
 pub mod numbers;
 pub mod page;

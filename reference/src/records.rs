@@ -91,7 +91,7 @@ pub fn separation(number: u16, alternate: u16, exponent: u8, c0: [i32; 4], c1: [
     made
 }
 
-/// The same Separation under another name, of up to 127 bytes.
+/// The same Separation under another name, of at most 504 bytes.
 pub fn named(mut separation: Record, name: &[u8]) -> Record {
     separation.bytes = [0; BODY];
     separation.bytes[..name.len()].copy_from_slice(name);

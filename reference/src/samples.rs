@@ -3,6 +3,7 @@
 use crate::block::{Record, BLOCK, BODY, DEVICE_CMYK, DEVICE_GRAY, DEVICE_RGB, MOST_BLOCKS};
 use crate::cie::Answer;
 use crate::colour::{evaluate, Reply};
+use crate::inks::{find, found_text};
 use crate::listing::list;
 use crate::numbers::ONE;
 use crate::recipe::recipe_of;
@@ -147,6 +148,26 @@ pub fn all() -> Vec<Sample> {
             full_page(),
         ),
         sample(
+            "job",
+            "A job's page of inks: Blue (block 1) over a Lab space (block 0), Buff (block 2), and Blue once more (block 4).",
+            page(&[
+                lab(0, USUAL),
+                named(blue_over(1, 0), b"Blue"),
+                named(gold(2, 1), b"Buff"),
+                free(3),
+                named(blue_over(4, 0), b"Blue"),
+            ]),
+        ),
+        sample(
+            "house",
+            "A house page of inks: Gold (block 0), Buff (block 1) and Varnish (block 2).",
+            page(&[
+                gold(0, 1),
+                named(gold(1, 2), b"Buff"),
+                named(separation(2, DEVICE_GRAY, 1, [ONE, 0, 0, 0], [0; 4]), b"Varnish"),
+            ]),
+        ),
+        sample(
             "zero",
             "A block of zeros: an accepted page of no spaces, on which device colours can be asked for.",
             vec![0; BLOCK],
@@ -251,6 +272,42 @@ pub fn colours() -> String {
     text
 }
 
+/// Inks to ask for: the names of two samples, the job's and the house's, and an ink's name.
+const INKS: &[(&str, &str, &str)] = &[
+    ("job", "house", "Blue"),
+    ("job", "house", "Buff"),
+    ("job", "house", "Gold"),
+    ("job", "house", "Varnish"),
+    ("job", "house", "blue"),
+    ("job", "house", "Varnis"),
+    ("job", "house", "Varnishes"),
+    ("job", "house", ""),
+    ("house", "job", "Buff"),
+    ("zero", "zero", "Gold"),
+    ("damaged", "house", "Gold"),
+    ("job", "damaged", "Blue"),
+];
+
+/// The text that the C program prints for the inks to ask for, each after the words that it is started with.
+pub fn inks() -> String {
+    let samples = all();
+    let page = |name| samples.iter().find(|sample| sample.name == name);
+    let mut text = String::new();
+    for &(job, house, name) in INKS {
+        let (Some(job), Some(house)) = (page(job), page(house)) else {
+            continue;
+        };
+        let words = format!("ink {}.page {}.page {name}", job.name, house.name);
+        text += &format!("{}\n", words.trim_end());
+        let reply = find(&job.page, &house.page, name.as_bytes());
+        let own = reply.map_or(String::new(), |ink| {
+            format!(" {}", String::from_utf8_lossy(ink.name))
+        });
+        text += &format!("{}{own}\n", found_text(&job.page, &house.page, &reply));
+    }
+    text
+}
+
 /// The text that says what each sample is and what the listing program prints for it.
 pub fn readme() -> String {
     let mut text = String::from(
@@ -262,9 +319,10 @@ written by the second implementation:
     cargo run --release --offline --manifest-path reference/Cargo.toml --bin samples -- samples
 
 `colour.c` is a C program that evaluates a colour, writes the space's recipe, runs it and prints both answers, with the word `moved` after one whose
-colour was pulled in. `run.c` runs a recipe that it wrote, with the plate setter's library alone. `edges.c` checks the C interface at its edges. With the
-libraries in `target/staticlib/` (`rt staticlib sktelbaan` and `rt staticlib sktelbaan_runner` put them there), `samples/build` compiles all three, runs the
-first two on the colours of `colours.txt`, and compares what they print with that text.
+colour was pulled in. `run.c` runs a recipe that it wrote, with the plate setter's library alone. `ink.c` asks for an ink by its name, of a job's page and
+a house page. `edges.c` checks the C interface at its edges. With the libraries in `target/staticlib/` (`rt staticlib sktelbaan` and `rt staticlib
+sktelbaan_runner` put them there), `samples/build` compiles all four, runs the first two on the colours of `colours.txt` and the third on the inks of
+`inks.txt`, and compares what they print with these texts.
 ",
     );
     for Sample { name, about, page } in all() {
@@ -302,6 +360,17 @@ mod tests {
         ] {
             assert_eq!(float_text(v), text);
         }
+    }
+
+    #[test]
+    fn every_ink_to_ask_for_has_its_lines() {
+        let text = inks();
+        assert_eq!(text.lines().count(), 2 * INKS.len());
+        assert!(text.contains("Buff\nfound job block 2 byte 1032 Buff\n"));
+        assert!(text.contains("Gold\nfound house block 0 byte 8 Gold\n"));
+        assert!(text.contains("blue\nrefused 8 neither block 0\n"));
+        assert!(text.contains("refused 2 job block 0\n"));
+        assert!(text.ends_with("refused 2 house block 0\n"));
     }
 
     #[test]

@@ -3,7 +3,7 @@
 use reference::block::BLOCK;
 use reference::listing::list;
 use reference::page::{spaces, validate};
-use reference::samples::{all, colours, readme};
+use reference::samples::{all, colours, inks, readme};
 use std::path::Path;
 
 #[test]
@@ -15,7 +15,11 @@ fn the_files_are_fresh() {
         let listing = std::fs::read_to_string(folder.join(format!("{}.txt", sample.name))).unwrap();
         assert_eq!(listing, list(&sample.page), "{}.txt is stale", sample.name);
     }
-    for (name, text) in [("colours.txt", colours()), ("README.md", readme())] {
+    for (name, text) in [
+        ("colours.txt", colours()),
+        ("inks.txt", inks()),
+        ("README.md", readme()),
+    ] {
         let found = std::fs::read_to_string(folder.join(name)).unwrap();
         assert!(found == text, "{name} is stale");
     }

@@ -2,10 +2,10 @@
 use mathlib.Core.Path.{_≡_, refl, sym, _∙_}
 use mathlib.Core.List.{List, _∷_, _++_}
 use mathlib.Core.Bool.{true}
-use Prim.Native.Nat.{ℕ, zero, suc, _+_, _-_, _<_, _≤_}
+use Prim.Native.Nat.{ℕ, zero, suc, _+_, _<_, _≤_}
 use native.Mathlib.Omega.{arith}
 use native.Mathlib.Decide.{decLt}
-use lib.ListN.{length, getD, drop, replicate, length-append, length-replicate, getD-replicate}
+use lib.ListN.{length, getD, replicate, length-replicate, getD-replicate}
 use lib.Seq.{ext-getD}
 use lib.Dec.{leb}
 use Rattle.fixed.specs.Bytes.{byteAt, twoAt}
@@ -16,17 +16,11 @@ use Rattle.layout.proofs.Fields.{AllGot}
 use Rattle.record.specs.Layout.{body, rest, kindOf, namedTo}
 use Rattle.record.specs.Reading.{bodyBy, runAt, bytesBy}
 use Rattle.record.specs.Rules.{used}
-use Rattle.record.proofs.Shapes.{run-at, run-past}
+use Rattle.record.proofs.Shapes.{run-at, run-length, run-past}
 use Rattle.record.specs.declared.types.Body.{Body}
 use Rattle.record.specs.declared.types.Body.the-variants.{Free, CalGray, CalRgb, Lab, Indexed, Separation, Palette}
 
 -- ---- a run in its room
-
-pub run-length : (b : List ℕ) (at n : ℕ) → n ≤ 504 → length (runAt b at n) ≡ 504
-run-length b at n h =
-    let l : length (padded n (drop at b)) ≡ n = length-padded n (drop at b) in
-    let m : length (replicate {A = ℕ} (504 - n) 0) ≡ 504 - n = length-replicate {A = ℕ} (504 - n) 0 in
-    length-append (padded n (drop at b)) (replicate (504 - n) 0) ∙ omega arith
 
 run-held : (b : List ℕ) (at n : ℕ) → Holds b at (padded n (runAt b at n))
 run-held b at n =

@@ -1,4 +1,5 @@
 // Cases of pages, colours, recipes and running them.
+use crate::asking::ink_case;
 use colour::evaluate;
 use fixed::number_at;
 use fixed::of_signed;
@@ -147,7 +148,7 @@ fn list_case(page: &[u8]) {
     }
 }
 
-// Operations 30 to 34: validating, evaluating, writing a recipe, running one, listing.
+// Operations 30 to 35: validating, evaluating, writing a recipe, running one, listing, asking for an ink.
 pub fn page_case(op: u32, v: [i32; 24], bytes: &[u8]) {
     match op {
         30 => validate_case(bytes),
@@ -155,6 +156,7 @@ pub fn page_case(op: u32, v: [i32; 24], bytes: &[u8]) {
         32 => write_case(v, bytes),
         33 => run_case(v, bytes),
         34 => list_case(bytes),
+        35 => ink_case(v, bytes),
         _ => say(b"no such case"),
     }
 }

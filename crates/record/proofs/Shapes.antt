@@ -5,18 +5,22 @@ use mathlib.Core.Bool.{Bool, true, false, _&&_, cond, not}
 use Prim.Native.Nat.{ℕ, zero, suc, _+_, _-_, _<_, _≤_}
 use native.Mathlib.Omega.{arith}
 use borrow.Author.Tests.{leb-true}
-use lib.ListN.{length, getD, drop, replicate, getD-replicate, List·getD-append}
+use lib.ListN.{length, getD, drop, replicate, length-append, length-replicate, getD-replicate, List·getD-append}
 use lib.Seq.{getD-append-add, getD-drop}
 use lib.Dec.{eqb, leb, ltb}
 use Rattle.fixed.specs.Bytes.{byteAt}
 use Rattle.fixed.specs.Loops.{allFrom, zeroBetween}
-use Rattle.fixed.proofs.Decide.{and-left, and-same}
+use Rattle.fixed.proofs.Decide.{cond-ind, and-left, and-same}
 use Rattle.fixed.proofs.Scans.{all-same}
 use Rattle.layout.specs.Field.{padded}
 use Rattle.layout.proofs.Held.{length-padded, getD-padded, all-zero}
-use Rattle.record.specs.Reading.{kindAt, ownAt, bodyBy, runAt, bytesBy, recordAt}
+use Rattle.record.specs.Layout.{kindOf, room}
+use Rattle.record.specs.Reading.{kindAt, ownAt, bodyBy, runAt, nameFrom, bytesBy, recordAt}
 use Rattle.fixed.specs.Bytes.{blocks}
 use Rattle.record.specs.Rules.{noneZero, nameFits, wellLaid, nameShown, wellFormed, used, wellNamed, wellShaped}
+use Rattle.record.specs.declared.types.Separation.{Separation as Ink}
+use Rattle.record.specs.declared.types.Body.{Body}
+use Rattle.record.specs.declared.types.Body.the-variants.{Separation}
 
 -- the name rule sees the same name at two places of two lists where the 128 bytes there agree
 pub name-same : (s t : List ℕ) (j k n : ℕ) → ((i : ℕ) → i < 128 → byteAt s (j + i) ≡ byteAt t (k + i)) → nameFits s j n ≡ nameFits t k n
@@ -52,6 +56,13 @@ module _ (b : List ℕ) (at n : ℕ) where
       let m : i < length (padded n (drop at b)) = rw (length-padded n (drop at b)) l in
       List·getD-append (padded n (drop at b)) (replicate (504 - n) 0) 0 i m ∙ getD-padded n (drop at b) i l ∙ getD-drop at b i 0
 
+  -- it has as many bytes as every room
+  pub run-length : n ≤ room → length (runAt b at n) ≡ room
+  run-length h =
+      let l : length (padded n (drop at b)) ≡ n = length-padded n (drop at b) in
+      let m : length (replicate {A = ℕ} (room - n) 0) ≡ room - n = length-replicate {A = ℕ} (room - n) 0 in
+      length-append (padded n (drop at b)) (replicate (room - n) 0) ∙ omega arith
+
   pub run-past : (i : ℕ) → n ≤ i → i < 504 → getD (runAt b at n) i 0 ≡ 0
   run-past i l m =
       let e : length (padded n (drop at b)) + (i - n) ≡ i = omega (arith, length-padded n (drop at b)) in
@@ -64,6 +75,21 @@ module _ (b : List ℕ) (at n : ℕ) where
 
 pub no-bytes : zeroBetween (replicate {A = ℕ} 504 0) 0 504 ≡ true
 no-bytes = all-zero (replicate 504 0) 0 504 (λ i l m. getD-replicate 504 i 0 0 m)
+
+-- the room of a Separation has the 128 bytes of its block that are a name's place
+pub name-run : (b : List ℕ) (p : Ink) → recordAt b .body ≡ Separation p → recordAt b .bytes ≡ runAt b nameFrom 128
+unfolding bodyBy bytesBy recordAt
+name-run b p e = by-kinds (kindAt b) (ap kindOf e)
+  where
+    by-kinds : (k : ℕ) → kindOf (bodyBy k b) ≡ 5 → bytesBy k b ≡ runAt b nameFrom 128
+    by-kinds k =
+        let P : Body → Type 0 = λ y. kindOf y ≡ 5 → bytesBy k b ≡ runAt b nameFrom 128 in
+        cond-ind P (eqb k 1) (λ _ e. absurd (omega arith)) (λ _.
+        cond-ind P (eqb k 2) (λ _ e. absurd (omega arith)) (λ _.
+        cond-ind P (eqb k 3) (λ _ e. absurd (omega arith)) (λ _.
+        cond-ind P (eqb k 4) (λ _ e. absurd (omega arith)) (λ _.
+        cond-ind P (eqb k 5) (λ t _. rw t) (λ _.
+        cond-ind P (eqb k 6) (λ _ e. absurd (omega arith)) (λ _ e. absurd (omega arith)))))))
 
 -- ---- the record read shows of refusal 3 what the block shows
 

@@ -79,9 +79,13 @@ bodyAt b = bodyBy (kindAt b) b
 abbrev pub runAt : List ℕ → ℕ → ℕ → List ℕ
 runAt b at n = padded n (drop at b) ++ replicate (room - n) 0
 
--- the room of a block of kind k: name 8, or the part of a palette
+-- where the name of a Separation begins in its block
+abbrev pub nameFrom : ℕ
+nameFrom = 8
+
+-- the room of a block of kind k: the name, or the part of a palette
 unfoldable pub bytesBy : ℕ → List ℕ → List ℕ
-bytesBy k b = cond (eqb k 5) (runAt b 8 128) (cond (eqb k 6) (runAt b 4 room) (replicate room 0))
+bytesBy k b = cond (eqb k 5) (runAt b nameFrom 128) (cond (eqb k 6) (runAt b 4 room) (replicate room 0))
 
 -- byte k of the part of a palette
 abbrev pub paletteAt : List ℕ → ℕ → ℕ
@@ -94,9 +98,9 @@ theNone = 0x4E ∷ 0x6F ∷ 0x6E ∷ 0x65 ∷ []
 abbrev pub theAll : List ℕ
 theAll = 0x41 ∷ 0x6C ∷ 0x6C ∷ []
 
--- the name of a block is exactly these bytes: as long, name length 7, and the same byte by byte, name 8
+-- the name of a block is exactly these bytes: as long, name length 7, and the same byte by byte from the name's place on
 unfoldable pub nameIs : List ℕ → List ℕ → Bool
-nameIs b name = eqb (byteAt b 7) (length name) && allBetween (λ k. eqb (byteAt b (8 + k)) (byteAt name k)) 0 (length name)
+nameIs b name = eqb (byteAt b 7) (length name) && allBetween (λ k. eqb (byteAt b (nameFrom + k)) (byteAt name k)) 0 (length name)
 
 -- the record that a block holds
 unfoldable pub recordAt : List ℕ → Record

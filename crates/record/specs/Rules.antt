@@ -10,7 +10,7 @@ use Rattle.fixed.specs.Bytes.{blocks, byteAt, device}
 use Rattle.fixed.specs.Loops.{unless, allBetween, zeroBetween}
 use Rattle.fixed.specs.Values.{value}
 use Rattle.record.specs.Layout.{room, namedTo, entriesOf}
-use Rattle.record.specs.Reading.{kindAt, bodyAt, recordAt}
+use Rattle.record.specs.Reading.{kindAt, bodyAt, nameFrom, recordAt}
 use Rattle.record.specs.declared.types.Triple.{Triple}
 use Rattle.record.specs.declared.types.Ranges.{Ranges}
 use Rattle.record.specs.declared.types.Four.{Four}
@@ -41,9 +41,9 @@ nameFits s start count =
 unfoldable pub wellLaid : List ℕ → Bool
 wellLaid b = leb (kindAt b) 6 && (eqb (byteAt b 1) 0 && zeroBetween b (namedTo (bodyAt b)) 508)
 
--- the name of a Separation, which stands at byte 8 with its length in byte 7
+-- the name of a Separation, with its length in byte 7
 unfoldable pub nameShown : List ℕ → Bool
-nameShown b = cond (eqb (kindAt b) 5) (nameFits b 8 (byteAt b 7)) true
+nameShown b = cond (eqb (kindAt b) 5) (nameFits b nameFrom (byteAt b 7)) true
 
 -- all of refusal 3 that one block shows, but its own number
 unfoldable pub wellFormed : List ℕ → Bool

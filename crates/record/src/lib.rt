@@ -37,6 +37,7 @@ pub use types::CalGray;
 pub use types::CalRgb;
 pub use types::Four;
 pub use types::Lab;
+pub use types::NAME_FROM;
 pub use types::ROOM;
 pub use types::Ranges;
 pub use types::Record;

@@ -2,6 +2,7 @@
 ghost use mathlib.Core.Path.{_≡_};
 ghost use Rattle.fixed.specs.Bytes.{blockAt};
 ghost use Rattle.record.specs.Reading.{nameIs};
+use crate::types::NAME_FROM;
 use fixed::byte_at;
 
 // Whether the name of block n is exactly this one.
@@ -14,7 +15,7 @@ pub fn is_name(page: &[u8], n: u32, name: &[u8]) -> bool
     }
     let mut k: u32 = 0;
     while k < size {
-        if byte_at(page, n, 8 + k) != name[k as usize] as u32 {
+        if byte_at(page, n, NAME_FROM + k) != name[k as usize] as u32 {
             return false;
         }
         k += 1;

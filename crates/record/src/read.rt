@@ -10,6 +10,7 @@ use crate::types::CalGray;
 use crate::types::CalRgb;
 use crate::types::Four;
 use crate::types::Lab;
+use crate::types::NAME_FROM;
 use crate::types::ROOM;
 use crate::types::Ranges;
 use crate::types::Record;
@@ -194,7 +195,7 @@ fn bytes_at(page: &[u8], n: u32, kind: u32) -> [u8; 504]
     ensures { λ r. ⌜ r ≡ bytesBy kind (blockAt (now (page .entry)) n) ⌝ }
 {
     if kind == 5 {
-        return run_at(page, n, 8, 128);
+        return run_at(page, n, NAME_FROM, 128);
     }
     if kind == 6 {
         return run_at(page, n, 4, ROOM);

@@ -9,6 +9,7 @@ ghost use Rattle.record.specs.Layout.{namedTo};
 ghost use Rattle.record.specs.Reading.{bodyBy};
 ghost use Rattle.record.specs.Rules.{noneZero, nameFits, wellLaid, nameShown, wellFormed, used, wellNamed, wellShaped};
 use crate::types::Body;
+use crate::types::NAME_FROM;
 use crate::types::NUMBERS;
 use crate::types::ROOM;
 use crate::types::Record;
@@ -107,7 +108,7 @@ fn is_name_shown(page: &[u8], n: u32) -> bool
     ensures { λ r. ⌜ r ≡ nameShown (blockAt (now (page .entry)) n) ⌝ }
 {
     if byte_at(page, n, 0) == 5 {
-        return name_fits(page, n, 8, byte_at(page, n, 7));
+        return name_fits(page, n, NAME_FROM, byte_at(page, n, 7));
     }
     true
 }

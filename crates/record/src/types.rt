@@ -6,6 +6,9 @@ pub const NUMBERS: u16 = fixed::BLOCKS as u16;
 // How many bytes the room of a record has, and a block's part of a palette.
 pub const ROOM: u32 = 504;
 
+// Where the name of a Separation begins in its block.
+pub const NAME_FROM: u32 = 8;
+
 // Three numbers: a point of XYZ, or one for each of three components.
 pub struct Triple {
     pub x: i32,

@@ -1,3 +1,4 @@
 pub mod Replies
+pub mod Inks
 pub mod Records
 pub mod RoundTrips

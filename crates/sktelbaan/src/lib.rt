@@ -2,12 +2,14 @@
 // crates below reply. What a reply of 64 bits is stands in `sktelbaan_runner`.
 ghost use mathlib.Core.Path.{_≡_};
 ghost use Rattle.colour.specs.Evaluating.{evaluated};
+ghost use Rattle.inks.specs.Search.{foundInk};
 ghost use Rattle.page.specs.Validation.{validated};
 ghost use Rattle.recipe.specs.PageWrites.{writeReply, writeWords};
 ghost use Rattle.runner.specs.Runs.{ran};
 ghost use Rattle.block.specs.Single.{readNumber};
 ghost use Rattle.sktelbaan_runner.specs.Replies.{inHalves, replyOf, floatsOf};
 ghost use Rattle.sktelbaan.specs.Replies.{verdictOf, wroteOf};
+ghost use Rattle.sktelbaan.specs.Inks.{inkOf, placeOf};
 ghost use Rattle.sktelbaan.specs.Records.{putNumber, putBlock, gotNumbers, gotBytes};
 
 mod answers;
@@ -15,6 +17,7 @@ mod numbers;
 mod records;
 
 use block::Reply;
+use inks::Ink;
 
 // Validates a page. The reply gives nothing.
 #[no_mangle]
@@ -101,5 +104,34 @@ pub extern "C" fn sktelbaan_read_block(
             answers::halves(0, 0)
         }
         Reply::Refused(n) => answers::halves(n, 0),
+    }
+}
+
+// Asks for an ink by its name, of the job's page and the house page. The reply gives the page and the block that it was found in, with the place of its name on
+// that page in `place`: how many bytes stand before it, and how many it has. On a refusal the reply has the page and the block that it is about, and `place`
+// stays as it was.
+#[no_mangle]
+pub extern "C" fn sktelbaan_find_ink(
+    job: &[u8],
+    house: &[u8],
+    name: &[u8],
+    place: &mut [u32; 2],
+) -> u64
+    ensures { λ r. ⌜ r ≡ inkOf (foundInk (now (job .entry)) (now (house .entry)) (now (name .entry))) ⌝ }
+    ensures { λ _. ⌜ now (place .exit) ≡ placeOf (foundInk (now (job .entry)) (now (house .entry)) (now (name .entry))) (now (name .entry)) (now (place .entry)) ⌝ }
+{
+    let t = inks::find(job, house, name);
+    match t {
+        Ink::Found { page, block } => {
+            let from = inks::name_start(block) as u32;
+            let size = name.len() as u32;
+            *place = [from, size];
+            answers::halves(0, answers::on_page(page, block))
+        }
+        Ink::Refused {
+            number,
+            page,
+            block,
+        } => answers::halves(number, answers::on_page(page, block)),
     }
 }

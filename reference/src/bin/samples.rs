@@ -1,7 +1,7 @@
-//! `samples DIR`: writes the sample pages, their listings, the colours to try and what is said of them into a folder.
+//! `samples DIR`: writes the sample pages, their listings, the colours and inks to try and what is said of them into a folder.
 
 use reference::listing::list;
-use reference::samples::{all, colours, readme};
+use reference::samples::{all, colours, inks, readme};
 use std::path::Path;
 use std::process::ExitCode;
 
@@ -13,6 +13,7 @@ fn write(folder: &Path) -> std::io::Result<()> {
         std::fs::write(listing, list(&sample.page))?;
     }
     std::fs::write(folder.join("colours.txt"), colours())?;
+    std::fs::write(folder.join("inks.txt"), inks())?;
     std::fs::write(folder.join("README.md"), readme())
 }
 

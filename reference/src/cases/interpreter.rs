@@ -7,6 +7,7 @@ use crate::block::{read_block, write_block, Body, Record, BLOCK, BODY, NAME};
 use crate::cie::{cal_gray, cal_rgb, lab, Answer};
 use crate::colour::evaluate;
 use crate::gamma::{decode, tenths};
+use crate::inks::{find, found_text};
 use crate::listing::list;
 use crate::numbers::{
     float_of, index, limit, palette_value, read_four, read_two, tint_power, tint_value,
@@ -62,6 +63,11 @@ impl Case {
                 reply_text(&runner::run(&words, counted(count, components)?))
             }
             (34, [], Some(page)) => list(page).lines().collect::<Vec<_>>().join("; "),
+            (35, &[job, house], Some(bytes)) => {
+                let (job, rest) = bytes.split_at_checked(usize::try_from(job).ok()?)?;
+                let (house, name) = rest.split_at_checked(usize::try_from(house).ok()?)?;
+                ink_text(job, house, name)
+            }
             _ => return None,
         };
         Some(text)
@@ -158,6 +164,16 @@ fn write_text(record: &Record) -> String {
         Ok(()) => format!("x{}", dotted(&lent)),
         Err(number) if lent == [0xaa; BLOCK] => format!("refused {number} kept"),
         Err(number) => format!("refused {number}"),
+    }
+}
+
+/// What asking for an ink by its name gives, in words, with the name's own bytes where it is found.
+fn ink_text(job: &[u8], house: &[u8], name: &[u8]) -> String {
+    let reply = find(job, house, name);
+    let text = found_text(job, house, &reply);
+    match reply {
+        Ok(ink) => format!("{text} x{}", dotted(ink.name)),
+        Err(_) => text,
     }
 }
 

@@ -63,6 +63,12 @@ impl Maker {
         self.list(&format!("{label}, listed"), page);
     }
 
+    /// Asks for an ink by its name.
+    pub(super) fn ink(&mut self, label: &str, job: &[u8], house: &[u8], name: &[u8]) {
+        let lengths = [job.len() as i32, house.len() as i32];
+        self.add(35, label, &lengths, Some(&[job, house, name].concat()));
+    }
+
     /// Evaluates a colour.
     pub(super) fn evaluate(&mut self, label: &str, page: &[u8], number: u32, colour: &[i32]) {
         let args = [&[number as i32, colour.len() as i32][..], colour].concat();

@@ -48,6 +48,7 @@ fn the_cases_are_well_formed() {
     assert_eq!(ops(&runs::cases()), [33]);
     assert_eq!(ops(&marks::cases()), [30, 31, 32, 33, 34]);
     assert_eq!(ops(&moved::cases()), [31, 33]);
+    assert_eq!(ops(&inks::cases()), [35]);
     assert_eq!(input_text(&cases).lines().count(), cases.len());
     assert_eq!(output_text(&cases).lines().count(), cases.len());
 }
@@ -116,6 +117,7 @@ fn every_refusal_is_reached() {
         (32, &[1, 2, 6, 7, 8, 10]),
         (33, &[9, 11]),
         (34, &[1, 2, 4]),
+        (35, &[1, 3, 8]),
     ] {
         let found: Vec<u32> = (1..=11).filter(|number| met(op, *number)).collect();
         assert_eq!(found, expected, "operation {op}");
@@ -361,6 +363,22 @@ fn group_replies_worked_by_hand() {
             "a run of 1046 words, the most being 1045",
             "refused 11 block 0",
         ),
+        (
+            35,
+            "an ink on both pages is the job's",
+            "found job block 1 byte 520 x476f6c64",
+        ),
+        (
+            35,
+            "a palette like an ink is passed over",
+            "found house block 0 byte 8 x476f6c64",
+        ),
+        (
+            35,
+            "no ink, the house page broken",
+            "refused 3 house block 3",
+        ),
+        (35, "an ink on neither page", "refused 8 neither block 0"),
     ] {
         assert_eq!(reply_of(op, label), expected, "{label}");
     }

@@ -1,6 +1,7 @@
 -- A whole gamma takes the first way of `decoded`, and any other the second.
 use mathlib.Core.Path.{_≡_, refl, ap, _∙_}
 use Prim.Native.Nat.{ℕ, _/_, _%_}
+use native.Mathlib.Omega.{arith}
 use lib.IntN.{ℤ}
 use lib.Ieee.{Float}
 use borrow.Author.Needs.{needs}
@@ -27,7 +28,7 @@ float-of-requires : tie.Need-float-of-requires
 float-of-requires c κs = search needs
 
 decode-whole-requires : tie.Need-decode-whole-requires
-decode-whole-requires c κs = (c .before .if1 .taken, c .before .before .tenths .ensures .1)
+decode-whole-requires c κs = (omega (arith, c .before .if1 .taken), c .before .before .tenths .ensures .1)
 
 returns : tie.Need-returns
 returns c =
