@@ -2,7 +2,7 @@
  *
  * A page is 1 to 64 blocks of 512 bytes, each with the record of a colour space, a part of a palette, or nothing. Here are all operations: validating a page,
  * evaluating a colour of one of its spaces, writing the recipe of a space, running a recipe, asking for an ink by its name, writing and reading a block by
- * itself. Link libsktelbaan.a.
+ * itself, reading a designer's text into a page. Link libsktelbaan.a.
  *
  * How a reply is read, what may be passed and what a caller owes is told in sktelbaan_runner.h, with the refusals.
  *
@@ -110,6 +110,49 @@ uint64_t sktelbaan_write_block(const int32_t numbers[20], const uint8_t bytes[50
 /* Reads the record of a block by itself; `block_len` is 512. Refuses with the first that applies of 10, 2, 3, 4, 5, 6. Gives 0, and all 20 numbers and all 504
  * bytes are written. */
 uint64_t sktelbaan_read_block(const uint8_t *block, size_t block_len, int32_t numbers[20], uint8_t bytes[504]) SKTELBAAN_NEVER_NULL;
+
+/* The spaces that a text may have open and still return to, and the bytes of a name or palette that are kept of it. */
+enum { SKTELBAAN_TEXT_SPACES = SKTELBAAN_MOST_BLOCKS + 1, SKTELBAAN_TEXT_BYTES = 1024 };
+
+/* Memory for reading a designer's text, lent to the three operations below from the first to the last. What is in it is theirs; whatever it is, it is
+ * answered. */
+struct sktelbaan_text {
+    uint64_t words[25];
+    int32_t values[30];
+    uint8_t word[SKTELBAAN_TEXT_BYTES];
+    uint32_t marks[SKTELBAAN_TEXT_SPACES];
+    uint8_t names[128 * SKTELBAAN_TEXT_SPACES];
+    uint32_t opens[SKTELBAAN_MOST_BLOCKS];
+    uint8_t blocks[SKTELBAAN_BLOCK_BYTES * SKTELBAAN_MOST_BLOCKS];
+};
+
+/* The same by the arrays of that memory: for other languages. C uses the functions below, which take the memory as one. */
+uint64_t sktelbaan_begin_text(uint64_t words[25], int32_t values[30], const uint8_t *word, const uint32_t *marks, const uint8_t *names, const uint32_t *opens,
+                              const uint8_t *blocks) SKTELBAAN_NEVER_NULL;
+uint64_t sktelbaan_read_text(const uint8_t *text, size_t text_len, size_t room_len, uint64_t words[25], int32_t values[30], uint8_t *word, uint32_t *marks,
+                             uint8_t *names, uint32_t *opens, uint8_t *blocks) SKTELBAAN_NEVER_NULL;
+uint64_t sktelbaan_end_text(uint8_t *room, size_t room_len, uint64_t words[25], int32_t values[30], const uint8_t *word, uint32_t *marks, uint8_t *names,
+                            uint32_t *opens, uint8_t *blocks) SKTELBAAN_NEVER_NULL;
+
+/* Begins a designer's text. Gives 0. */
+static inline uint64_t sktelbaan_text_begin(struct sktelbaan_text *t) {
+    return sktelbaan_begin_text(t->words, t->values, t->word, t->marks, t->names, t->opens, t->blocks);
+}
+
+/* Reads the next bytes of it, as many as there are at hand; `room_len` is the length of the room that its end will be lent. Gives 0: what is wrong with a
+ * text is told at its end. */
+static inline uint64_t sktelbaan_text_read(struct sktelbaan_text *t, const uint8_t *text, size_t text_len, size_t room_len) {
+    const uint8_t none = 0;
+    return sktelbaan_read_text(text_len != 0 ? text : &none, text_len, room_len, t->words, t->values, t->word, t->marks, t->names, t->opens, t->blocks);
+}
+
+/* Ends it. Refuses with the first of 12, 13, 14, 4, 5, 7, 15 and 10 that is met, then as sktelbaan_validate does; in place of a block stands the byte of
+ * the text that the refusal is about, counted from 0. Gives how many blocks the page has, which are written to the room; what is after them, and on a
+ * refusal all, stays as it was. */
+static inline uint64_t sktelbaan_text_end(struct sktelbaan_text *t, uint8_t *room, size_t room_len) {
+    uint8_t none = 0;
+    return sktelbaan_end_text(room_len != 0 ? room : &none, room_len, t->words, t->values, t->word, t->marks, t->names, t->opens, t->blocks);
+}
 
 /* How NULL may be passed where a length is 0: as with sktelbaan_run. */
 static inline uint64_t sktelbaan_validate_lending(const uint8_t *page, size_t page_len) {

@@ -78,7 +78,15 @@ enum sktelbaan_refusals {
     /* Fewer words were lent than the recipe has, or a block was not lent as 512 bytes. */
     SKTELBAAN_REFUSED_ROOM = 10,
     /* The words are not a recipe: how many components it takes, steps, one closing step and nothing more, 1045 words at most. */
-    SKTELBAAN_REFUSED_RECIPE = 11
+    SKTELBAAN_REFUSED_RECIPE = 11,
+    /* A designer's text has bad syntax, no space, or an entry of the wrong form or length, or it is unfinished; or it has more than 4,294,967,295 bytes. */
+    SKTELBAAN_REFUSED_TEXT_SYNTAX = 12,
+    /* A number of it is too large, or has more than six digits after the point. */
+    SKTELBAAN_REFUSED_TEXT_NUMBER = 13,
+    /* A key of it is missing, doubled or unknown. */
+    SKTELBAAN_REFUSED_TEXT_KEY = 14,
+    /* Its spaces take more than 64 blocks. */
+    SKTELBAAN_REFUSED_TEXT_BLOCKS = 15
 };
 
 /* A refusal in words, of the number that sktelbaan_refusal gives. The text stays for good: do not free it. */
@@ -95,8 +103,12 @@ static inline const char *sktelbaan_refusal_text(uint32_t refusal) {
         "the wrong number of components",
         "too few words for the recipe, or not 512 bytes for a block",
         "the words are not a well-formed recipe",
+        "the text has bad syntax, no space, or an entry of the wrong form or length, or is unfinished",
+        "a number of the text is too large or too fine",
+        "a key of the text is missing, doubled or unknown",
+        "the text has more than 64 blocks",
     };
-    return refusal >= 1 && refusal <= 11 ? texts[refusal - 1] : "not a refusal of this library";
+    return refusal >= 1 && refusal <= 15 ? texts[refusal - 1] : "not a refusal of this library";
 }
 
 /* What an answer is in: the value of sktelbaan_run and sktelbaan_evaluate. */

@@ -186,7 +186,7 @@ static void texts(void) {
         for (uint32_t m = SKTELBAAN_REFUSED_LENGTH; m < n; m++)
             expect("two refusals' texts", strcmp(sktelbaan_refusal_text(n), sktelbaan_refusal_text(m)) != 0);
     }
-    expect("the text of 12", strcmp(sktelbaan_refusal_text(SKTELBAAN_REFUSED_RECIPE + 1), other) == 0);
+    expect("the text of 16", strcmp(sktelbaan_refusal_text(SKTELBAAN_REFUSED_TEXT_BLOCKS + 1), other) == 0);
     expect("the text of the last number", strcmp(sktelbaan_refusal_text(UINT32_MAX), other) == 0);
 }
 

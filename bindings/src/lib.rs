@@ -30,9 +30,11 @@ use std::fmt;
 mod ink;
 mod raw;
 mod record;
+mod text;
 
 pub use ink::{find_ink, Ink, InkPage, InkRefusal};
 pub use record::{read_block, read_numbers, write_block, write_numbers, Body, Record};
+pub use text::{TextReader, Unread, PAGE_BYTES};
 
 /// The number that asks for DeviceGray.
 pub const DEVICE_GRAY: u32 = 0xff01;
@@ -168,14 +170,14 @@ impl fmt::Display for Colour {
 /// ```
 #[derive(Clone, Copy, Debug, PartialEq, Eq, Hash)]
 pub struct Refusal {
-    /// The refusal's number, 1 to 11.
+    /// The refusal's number, 1 to 11: a text has its own, in [`Unread`].
     pub number: u32,
     /// The block that the refusal is about, 0 for a refusal that is about none.
     pub block: u32,
 }
 
-/// The refusals 1 to 11 in words, as C has them.
-const MEANINGS: [&str; 11] = [
+/// The refusals 1 to 15 in words, as C has them.
+const MEANINGS: [&str; 15] = [
     "the page is not 1 to 64 blocks of 512 bytes",
     "a block's check is not that of its bytes",
     "a block of unknown kind, with a wrong own number, a byte that should be zero, or a bad name",
@@ -187,16 +189,25 @@ const MEANINGS: [&str; 11] = [
     "the wrong number of components",
     "too few words for the recipe, or not 512 bytes for a block",
     "the words are not a well-formed recipe",
+    "the text has bad syntax, no space, or an entry of the wrong form or length, or is unfinished",
+    "a number of the text is too large or too fine",
+    "a key of the text is missing, doubled or unknown",
+    "the text has more than 64 blocks",
 ];
+
+/// When a refusal of this number is given.
+fn meaning_of(number: u32) -> &'static str {
+    let place = (number as usize).wrapping_sub(1);
+    MEANINGS
+        .get(place)
+        .copied()
+        .unwrap_or("not a refusal of this library")
+}
 
 impl Refusal {
     /// When a refusal of this number is given.
     pub fn meaning(&self) -> &'static str {
-        let place = (self.number as usize).wrapping_sub(1);
-        MEANINGS
-            .get(place)
-            .copied()
-            .unwrap_or("not a refusal of this library")
+        meaning_of(self.number)
     }
 }
 
@@ -508,7 +519,7 @@ mod tests {
             .collect();
         assert_eq!(texts, MEANINGS);
         let other = Refusal {
-            number: 12,
+            number: 16,
             block: 0,
         }
         .meaning();

@@ -53,4 +53,39 @@ extern "C" {
         numbers: *mut i32,
         bytes: *mut u8,
     ) -> u64;
+
+    pub fn sktelbaan_begin_text(
+        words: *mut u64,
+        values: *mut i32,
+        word: *const u8,
+        marks: *const u32,
+        names: *const u8,
+        opens: *const u32,
+        blocks: *const u8,
+    ) -> u64;
+
+    pub fn sktelbaan_read_text(
+        text: *const u8,
+        text_len: usize,
+        room_len: usize,
+        words: *mut u64,
+        values: *mut i32,
+        word: *mut u8,
+        marks: *mut u32,
+        names: *mut u8,
+        opens: *mut u32,
+        blocks: *mut u8,
+    ) -> u64;
+
+    pub fn sktelbaan_end_text(
+        room: *mut u8,
+        room_len: usize,
+        words: *mut u64,
+        values: *mut i32,
+        word: *const u8,
+        marks: *mut u32,
+        names: *mut u8,
+        opens: *mut u32,
+        blocks: *mut u8,
+    ) -> u64;
 }

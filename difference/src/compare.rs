@@ -4,7 +4,7 @@
 use crate::{inputs, ours, Difference, Library, Reply, Tally, REFERENCE};
 use reference::cases::hex_of;
 use reference::generate::Rng;
-use sktelbaan::LONGEST;
+use sktelbaan::{Refusal, TextReader, Unread, LONGEST};
 use std::fmt::Debug;
 
 /// How many numbers are asked for on a page, and how many colours of a recipe are run.
@@ -252,6 +252,51 @@ pub fn read_block(library: &Library, rng: &mut Rng, blocks: u64) -> Result<Tally
                 format!("{record:?}")
             })?;
         }
+    }
+    Ok(tally)
+}
+
+/// A text as the library reads it, in parts that are cut at random; asked for twice, its end replies the same.
+fn in_parts(rng: &mut Rng, text: &[u8], room: usize) -> Result<Vec<u8>, Unread> {
+    let mut reader = TextReader::new(room);
+    let mut rest = text;
+    for _ in 0..rng.below(8) {
+        let (part, others) = rest.split_at(rng.below(rest.len() + 1));
+        reader.read(part);
+        rest = others;
+    }
+    if rng.once_in(20) {
+        rest.iter()
+            .for_each(|byte| reader.read(std::slice::from_ref(byte)));
+    } else {
+        reader.read(rest);
+    }
+    let reply = reader.end();
+    assert_eq!(
+        reply,
+        reader.end(),
+        "the end of a text replies the same again"
+    );
+    reply
+}
+
+/// Reads this many texts: the page, or the refusal with its byte in place of a block.
+pub fn texts(rng: &mut Rng, count: u64) -> Result<Tally, Difference> {
+    let mut tally = Tally::default();
+    for _ in 0..count {
+        let (text, room) = inputs::text(rng);
+        let expected = reference::text::read(&text, room / 512).map_err(|(number, at)| Refusal {
+            number,
+            block: at as u32,
+        });
+        let reply = in_parts(rng, &text, room).map_err(|unread| Refusal {
+            number: unread.number,
+            block: unread.at,
+        });
+        same("text", &reply, &expected, || {
+            format!("room {room} text {}", hex_of(&text))
+        })?;
+        tally.count(&reply);
     }
     Ok(tally)
 }

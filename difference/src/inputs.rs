@@ -1,4 +1,4 @@
-//! Random input: pages, numbers to be asked for, colours, lists of words, records and blocks.
+//! Random input: pages, numbers to be asked for, colours, lists of words, records, blocks and texts.
 
 use crate::ours;
 use reference::block::{lay, seal, Body, Record, BLOCK, DEVICE_CMYK, DEVICE_GRAY, DEVICE_RGB};
@@ -9,6 +9,8 @@ use reference::generate::{
 use reference::numbers::write_two;
 use reference::page::{components, spaces};
 use reference::recipe::{recipe_of, MOST_WORDS};
+use reference::text::generate as texts;
+use sktelbaan::PAGE_BYTES;
 
 /// A page: accepted, broken in one to three ways, or of random bytes.
 pub fn page(rng: &mut Rng) -> Vec<u8> {
@@ -310,4 +312,29 @@ pub fn block(rng: &mut Rng) -> Vec<u8> {
         }
     }
     block.to_vec()
+}
+
+/// A text, most often one that is accepted or nearly so, and the bytes of the room that it is read for.
+pub fn text(rng: &mut Rng) -> (Vec<u8>, usize) {
+    let mut text = match rng.below(40) {
+        0 => {
+            let count = 60 + rng.below(7);
+            texts::many_spaces(rng, count)
+        }
+        1 => {
+            let depth = rng.below(90);
+            texts::nested_text(rng, depth)
+        }
+        2 => Vec::new(),
+        _ => texts::random_text(rng),
+    };
+    for _ in 0..rng.below(3) {
+        texts::damage_text(rng, &mut text);
+    }
+    let room = if rng.once_in(4) {
+        rng.below(10 * 512)
+    } else {
+        PAGE_BYTES + rng.below(512)
+    };
+    (text, room)
 }

@@ -297,7 +297,7 @@ pub struct Tally {
     /// How many of those answered say that the colour was pulled in.
     pub moved: u64,
     /// How many were refused, by the refusal's number; the first place stays 0.
-    pub refused: [u64; 12],
+    pub refused: [u64; 16],
 }
 
 impl Tally {

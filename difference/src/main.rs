@@ -28,7 +28,7 @@ fn asked(words: impl Iterator<Item = String>) -> Option<(u64, u64)> {
 }
 
 /// All the comparisons: for each page validated two colours, two runs of a written recipe, two lists,
-/// two inks, two records, two lists of any numbers as records, and two blocks.
+/// two inks, two records, two lists of any numbers as records, two blocks, and a text.
 fn compare(seed: u64, pages: u64) -> Result<(), Difference> {
     let rng = &mut Rng::new(seed);
     let library = &PROVED;
@@ -52,6 +52,7 @@ fn compare(seed: u64, pages: u64) -> Result<(), Difference> {
         "read_block {}",
         compare::read_block(library, rng, 2 * pages)?
     );
+    println!("text {}", compare::texts(rng, pages)?);
     Ok(())
 }
 

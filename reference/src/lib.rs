@@ -24,3 +24,4 @@ pub mod recipe;
 pub mod records;
 pub mod runner;
 pub mod samples;
+pub mod text;

@@ -9,6 +9,7 @@ use crate::numbers::ONE;
 use crate::recipe::recipe_of;
 use crate::records::{cal_gray, cal_rgb, free, indexed_run, lab, named, page, separation, USUAL};
 use crate::runner::run;
+use crate::text::read;
 
 /// A page to try.
 #[derive(Clone, Debug)]
@@ -308,13 +309,49 @@ pub fn inks() -> String {
     text
 }
 
+/// A designer's text to try, which is written by hand.
+#[derive(Clone, Copy, Debug)]
+pub struct Written {
+    /// The file's name, without its ending.
+    pub name: &'static str,
+    /// What the text is, in a sentence or two.
+    pub about: &'static str,
+    /// The text.
+    pub text: &'static [u8],
+}
+
+/// The designers' texts.
+pub const TEXTS: [Written; 2] = [
+    Written {
+        name: "deck",
+        about: "A designer's text of all five families, with comments and odd layout, both forms of strings, and entries left out that have defaults.",
+        text: include_bytes!("../../samples/deck.txt"),
+    },
+    Written {
+        name: "refused",
+        about: "A designer's text with a comma for a point: no page is written of it.",
+        text: include_bytes!("../../samples/refused.txt"),
+    },
+];
+
+impl Written {
+    /// What the listing program prints for the text's page, or the line that the reading program prints for a refused
+    /// text.
+    pub fn listing(&self) -> String {
+        match read(self.text, MOST_BLOCKS) {
+            Ok(page) => list(&page),
+            Err((number, at)) => format!("refused {number} at {at}\n"),
+        }
+    }
+}
+
 /// The text that says what each sample is and what the listing program prints for it.
 pub fn readme() -> String {
     let mut text = String::from(
         "# Samples
 
-Pages to try. `NAME.page` is a page of 512-byte blocks, `NAME.txt` beside it what the listing program prints for it. All of them, and this text, are
-written by the second implementation:
+Pages and texts to try. `NAME.page` is a page of 512-byte blocks, `NAME.txt` beside it what the listing program prints for it. All of them, every
+`NAME.lst` and this text are written by the second implementation:
 
     cargo run --release --offline --manifest-path reference/Cargo.toml --bin samples -- samples
 
@@ -323,8 +360,21 @@ colour was pulled in. `run.c` runs a recipe that it wrote, with the plate setter
 a house page. `edges.c` checks the C interface at its edges. With the libraries in `target/staticlib/` (`rt staticlib sktelbaan` and `rt staticlib
 sktelbaan_runner` put them there), `samples/build` compiles all four, runs the first two on the colours of `colours.txt` and the third on the inks of
 `inks.txt`, and compares what they print with these texts.
+
+`deck.txt` and `refused.txt` are designers' texts, written by hand. `deck.lst` has what is printed by
+
+    target/bin/reading < samples/deck.txt | target/bin/listing
+
+and `refused.lst` the line that `target/bin/reading < samples/refused.txt` prints to standard error.
 ",
     );
+    for written in TEXTS {
+        let Written { name, about, .. } = written;
+        text += &format!("\n## {name}.txt\n\n{about}\n\n");
+        for line in written.listing().lines() {
+            text += &format!("    {line}\n");
+        }
+    }
     for Sample { name, about, page } in all() {
         let listing = list(&page);
         text += &format!("\n## {name}.page\n\n{about}\n\n");

@@ -10,4 +10,5 @@ pub use trips::read_and_written;
 pub use trips::written_and_read;
 pub use types::ReadReply;
 pub use types::Reply;
+pub use writing::put_record;
 pub use writing::write;

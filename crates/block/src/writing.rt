@@ -3,7 +3,7 @@ ghost use mathlib.Core.Path.{_≡_};
 ghost use mathlib.Core.List.{[], _∷_};
 ghost use lib.ListN.{length};
 ghost use Rattle.layout.specs.Field.{one, two, puts};
-ghost use Rattle.record.specs.Layout.{kindOf, check};
+ghost use Rattle.record.specs.Layout.{kindOf, check, blockOf};
 ghost use Rattle.block.specs.Single.{meaning, outcomeOf, writeNumber, writeOut};
 use crate::fields::put_body;
 use crate::types::Reply;
@@ -48,6 +48,19 @@ fn put_check(out: &mut [u8])
     put_two(out, 510, w);
 }
 
+// Stores the block of a record, whatever is to be refused of it.
+pub fn put_record(r: Record, out: &mut [u8])
+    requires { ⌜ length (now out) ≡ 512 ⌝ }
+    ensures { λ _. ⌜ now (out .exit) ≡ blockOf r ⌝ }
+{
+    let y = r.body;
+    let s = r.bytes;
+    let kind = kind_of(y);
+    put_head(out, kind, r.own);
+    put_body(out, y, &s);
+    put_check(out);
+}
+
 // Writes a record into the 512 bytes of out.
 pub fn write(r: Record, out: &mut [u8]) -> Reply
     ensures replies { λ t. ⌜ meaning t ≡ outcomeOf (writeNumber r (now (out .entry))) ⌝ }
@@ -60,11 +73,6 @@ pub fn write(r: Record, out: &mut [u8]) -> Reply
     if n != 0 {
         return Reply::Refused(n);
     }
-    let y = r.body;
-    let s = r.bytes;
-    let kind = kind_of(y);
-    put_head(out, kind, r.own);
-    put_body(out, y, &s);
-    put_check(out);
+    put_record(r, out);
     Reply::Done
 }

@@ -48,6 +48,10 @@ acceptedText page = text "blocks " ++ digits (length page / 512) ++ text "\n" ++
 unfoldable pub refusedText : ℕ → ℕ → List ℕ
 refusedText number block = text "refused " ++ digits number ++ text " block " ++ digits block ++ text "\n"
 
+-- a designer's text that is refused, at a byte
+unfoldable pub unreadText : ℕ → ℕ → List ℕ
+unreadText number at = text "refused " ++ digits number ++ text " at " ++ digits at ++ text "\n"
+
 abbrev pub listingBy : Outcome → List ℕ → List ℕ
 listingBy accepted page = acceptedText page
 listingBy (refused number block) page = refusedText number block

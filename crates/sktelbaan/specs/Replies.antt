@@ -2,6 +2,8 @@
 use Prim.Native.Nat.{ℕ}
 use Rattle.page.specs.Outcomes.{Outcome, accepted, refused}
 use Rattle.recipe.specs.SpaceWrites.{Reply as Wrote, wrote, refusal as unwritten}
+use Rattle.designer.specs.declared.types.Reply.{Reply as Read}
+use Rattle.designer.specs.declared.types.Reply.the-variants.{Page, Refused}
 pub use Rattle.sktelbaan_runner.specs.Replies.{inHalves}
 
 -- validation: nothing is given where a page is accepted
@@ -13,3 +15,8 @@ verdictOf (refused number block) = inHalves number block
 abbrev pub wroteOf : Wrote → ℕ
 wroteOf (wrote n) = inHalves 0 n
 wroteOf (unwritten number block) = inHalves number block
+
+-- the end of a text: how many blocks its page has, or a refusal with its byte
+abbrev pub pageOf : Read → ℕ
+pageOf (Page n) = inHalves 0 n
+pageOf (Refused n at) = inHalves n at

@@ -6,15 +6,20 @@ ghost use Rattle.inks.specs.Search.{foundInk};
 ghost use Rattle.page.specs.Validation.{validated};
 ghost use Rattle.recipe.specs.PageWrites.{writeReply, writeWords};
 ghost use Rattle.runner.specs.Runs.{ran};
+ghost use lib.ListN.{length};
 ghost use Rattle.block.specs.Single.{readNumber};
+ghost use Rattle.reader.specs.Texts.{roomAfter};
+ghost use Rattle.designer.specs.State.{replied};
+ghost use Rattle.designer.specs.Lent.{memory, lentFault, viewOf, begunView, partView, endView, answerOf};
 ghost use Rattle.sktelbaan_runner.specs.Replies.{inHalves, replyOf, floatsOf};
-ghost use Rattle.sktelbaan.specs.Replies.{verdictOf, wroteOf};
+ghost use Rattle.sktelbaan.specs.Replies.{verdictOf, wroteOf, pageOf};
 ghost use Rattle.sktelbaan.specs.Inks.{inkOf, placeOf};
 ghost use Rattle.sktelbaan.specs.Records.{putNumber, putBlock, gotNumbers, gotBytes};
 
 mod answers;
 mod numbers;
 mod records;
+mod texts;
 
 use block::Reply;
 use inks::Ink;
@@ -134,4 +139,63 @@ pub extern "C" fn sktelbaan_find_ink(
             block,
         } => answers::halves(number, answers::on_page(page, block)),
     }
+}
+
+// Begins a designer's text, in memory that is lent. The reply gives nothing.
+#[no_mangle]
+pub extern "C" fn sktelbaan_begin_text(
+    words: &mut [u64; designer::WORDS],
+    values: &mut [i32; designer::VALUES],
+    word: &[u8; designer::WORD_BYTES],
+    marks: &[u32; designer::SPACES],
+    names: &[u8; designer::NAME_BYTES],
+    opens: &[u32; designer::BLOCKS],
+    blocks: &[u8; designer::BLOCK_BYTES],
+) -> u64
+    ensures { λ r. ⌜ r ≡ inHalves (lentFault (memory (now (words .entry)) (now (values .entry)) (now (word .entry)) (now (marks .entry)) (now (names .entry)) (now (opens .entry)) (now (blocks .entry)))) 0 ⌝ }
+    ensures { λ _. ⌜ viewOf (memory (now (words .exit)) (now (values .exit)) (now (word .entry)) (now (marks .entry)) (now (names .entry)) (now (opens .entry)) (now (blocks .entry))) ≡ begunView (viewOf (memory (now (words .entry)) (now (values .entry)) (now (word .entry)) (now (marks .entry)) (now (names .entry)) (now (opens .entry)) (now (blocks .entry)))) ⌝ }
+{
+    answers::halves(
+        designer::begin(words, values, word, marks, names, opens, blocks),
+        0,
+    )
+}
+
+// Reads a part of a designer's text; `room` is the length of the room that its end will be lent. The reply gives nothing.
+#[no_mangle]
+pub extern "C" fn sktelbaan_read_text(
+    text: &[u8],
+    room: usize,
+    words: &mut [u64; designer::WORDS],
+    values: &mut [i32; designer::VALUES],
+    word: &mut [u8; designer::WORD_BYTES],
+    marks: &mut [u32; designer::SPACES],
+    names: &mut [u8; designer::NAME_BYTES],
+    opens: &mut [u32; designer::BLOCKS],
+    blocks: &mut [u8; designer::BLOCK_BYTES],
+) -> u64
+    ensures { λ r. ⌜ r ≡ inHalves (lentFault (memory (now (words .entry)) (now (values .entry)) (now (word .entry)) (now (marks .entry)) (now (names .entry)) (now (opens .entry)) (now (blocks .entry)))) 0 ⌝ }
+    ensures { λ _. ⌜ viewOf (memory (now (words .exit)) (now (values .exit)) (now (word .exit)) (now (marks .exit)) (now (names .exit)) (now (opens .exit)) (now (blocks .exit))) ≡ partView room (viewOf (memory (now (words .entry)) (now (values .entry)) (now (word .entry)) (now (marks .entry)) (now (names .entry)) (now (opens .entry)) (now (blocks .entry)))) (now (text .entry)) ⌝ }
+{
+    let n = designer::part(text, room, words, values, word, marks, names, opens, blocks);
+    answers::halves(n, 0)
+}
+
+// Ends a designer's text. The reply gives how many blocks were written to the room; on a refusal its byte in place of a block, and the room stays as it was.
+#[no_mangle]
+pub extern "C" fn sktelbaan_end_text(
+    room: &mut [u8],
+    words: &mut [u64; designer::WORDS],
+    values: &mut [i32; designer::VALUES],
+    word: &[u8; designer::WORD_BYTES],
+    marks: &mut [u32; designer::SPACES],
+    names: &mut [u8; designer::NAME_BYTES],
+    opens: &mut [u32; designer::BLOCKS],
+    blocks: &mut [u8; designer::BLOCK_BYTES],
+) -> u64
+    ensures { λ r. ⌜ r ≡ pageOf (replied (answerOf (length (now (room .entry))) (viewOf (memory (now (words .entry)) (now (values .entry)) (now (word .entry)) (now (marks .entry)) (now (names .entry)) (now (opens .entry)) (now (blocks .entry)))))) ⌝ }
+    ensures { λ _. ⌜ now (room .exit) ≡ roomAfter (answerOf (length (now (room .entry))) (viewOf (memory (now (words .entry)) (now (values .entry)) (now (word .entry)) (now (marks .entry)) (now (names .entry)) (now (opens .entry)) (now (blocks .entry))))) (now (room .entry)) ⌝ }
+    ensures { λ _. ⌜ viewOf (memory (now (words .exit)) (now (values .exit)) (now (word .entry)) (now (marks .exit)) (now (names .exit)) (now (opens .exit)) (now (blocks .exit))) ≡ endView (length (now (room .entry))) (viewOf (memory (now (words .entry)) (now (values .entry)) (now (word .entry)) (now (marks .entry)) (now (names .entry)) (now (opens .entry)) (now (blocks .entry)))) ⌝ }
+{
+    texts::page_reply(designer::end(room, words, values, word, marks, names, opens, blocks))
 }

@@ -7,11 +7,14 @@ use reference::block::{DEVICE_CMYK, DEVICE_GRAY, DEVICE_RGB};
 use reference::generate::Rng;
 use reference::numbers::ONE;
 use reference::records::{cal_gray, cal_rgb, free, indexed_run, lab, page, separation, USUAL};
+use sktelbaan::{TextReader, PAGE_BYTES};
 use std::hint::black_box;
 use std::time::Instant;
 
 /// How many rounds are timed; the least counts.
 const ROUNDS: usize = 301;
+/// How many rounds of reading a text are timed.
+const TEXT_ROUNDS: usize = 31;
 /// How many colours a round of `run` has, all different.
 const COLOURS: usize = 4096;
 
@@ -263,6 +266,62 @@ fn palettes() {
     }
 }
 
+/// Texts of about a hundred thousand bytes: their names, and what each has most of. Each is accepted.
+fn texts() -> [(&'static str, Vec<u8>); 4] {
+    let white = "/WhitePoint [0.9505 1 1.089]";
+    let gray = format!("[ /CalGray << {white} >> ]");
+    let comment = "% The scans of the autumn catalogue, as the studio types them.\n";
+    let rgb = format!(
+        "[ /CalRGB << {white} /BlackPoint [0.000000 0.000000 0.000000] /Gamma [2.200000 2.200000 2.200000] /Matrix \
+         [0.412456 0.212673 0.019334 0.357576 0.715152 0.119192 0.180438 0.072175 0.950304] >> ]\n"
+    );
+    let palette = |open: &str, byte: &str, close: &str| {
+        let bytes = byte.repeat(1024);
+        format!("[ /Indexed /DeviceCMYK 255 {open}{bytes}{close} ]\n").repeat(16)
+    };
+    [
+        ("comments", (comment.repeat(1600) + &gray).into_bytes()),
+        ("dictionaries of numbers", rgb.repeat(64).into_bytes()),
+        ("hexadecimal palettes", palette("<", "7F", ">").into_bytes()),
+        (
+            "palettes in parentheses, all escapes",
+            palette("(", r"\177", ")").into_bytes(),
+        ),
+    ]
+}
+
+/// Reading texts, whole and in parts of 64 bytes, in bytes a second; beginning and ending a text are not counted.
+fn reading() {
+    println!(
+        "| Reading texts, MB/s | bytes | `read` | in parts of 64 bytes | the plain reference |"
+    );
+    println!("|---|---|---|---|---|");
+    for (name, text) in texts() {
+        let page = reference::text::read(&text, 64);
+        let part = |length: usize| {
+            let mut fastest = f64::INFINITY;
+            for _ in 0..TEXT_ROUNDS {
+                let mut reader = TextReader::new(PAGE_BYTES);
+                let start = Instant::now();
+                for part in black_box(&text).chunks(length) {
+                    reader.read(part);
+                }
+                fastest = fastest.min(start.elapsed().as_nanos() as f64);
+                assert_eq!(reader.end().ok(), page.clone().ok());
+            }
+            1000.0 * text.len() as f64 / fastest
+        };
+        assert!(page.is_ok(), "{name} are accepted");
+        let (whole, cut) = (part(text.len()), part(64));
+        let time = least(|| {
+            black_box(&reference::text::read(black_box(&text), 64).is_ok());
+        });
+        let plain = 1000.0 * text.len() as f64 / time;
+        let bytes = text.len();
+        println!("| {name} | {bytes} | {whole:.1} | {cut:.1} | {plain:.1} |");
+    }
+}
+
 #[cfg(lcms2)]
 mod lcms {
     //! LittleCMS beside the library: the same colours, in doubles.
@@ -345,6 +404,8 @@ fn main() {
     evaluations(&full);
     println!();
     palettes();
+    println!();
+    reading();
     println!();
     #[cfg(lcms2)]
     lcms::rows();

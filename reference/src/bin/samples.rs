@@ -1,7 +1,7 @@
-//! `samples DIR`: writes the sample pages, their listings, the colours and inks to try and what is said of them into a folder.
+//! `samples DIR`: writes the sample pages, the listings of these and of the designers' texts, the colours and inks to try and what is said of them into a folder.
 
 use reference::listing::list;
-use reference::samples::{all, colours, inks, readme};
+use reference::samples::{all, colours, inks, readme, TEXTS};
 use std::path::Path;
 use std::process::ExitCode;
 
@@ -11,6 +11,9 @@ fn write(folder: &Path) -> std::io::Result<()> {
         std::fs::write(folder.join(format!("{}.page", sample.name)), &sample.page)?;
         let listing = folder.join(format!("{}.txt", sample.name));
         std::fs::write(listing, list(&sample.page))?;
+    }
+    for text in TEXTS {
+        std::fs::write(folder.join(format!("{}.lst", text.name)), text.listing())?;
     }
     std::fs::write(folder.join("colours.txt"), colours())?;
     std::fs::write(folder.join("inks.txt"), inks())?;

@@ -1,0 +1,9 @@
+-- Laws that several proofs cite, here and in the crates above.
+pub mod Tables
+pub mod Classes
+pub mod Ranges
+pub mod Values
+pub mod Findings
+pub mod Texts
+pub mod Samples
+pub mod Passing

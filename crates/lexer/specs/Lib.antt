@@ -1,0 +1,4 @@
+pub mod Chars
+pub mod Numbers
+pub mod Moves
+pub mod Scans

@@ -1,0 +1,4 @@
+-- What the lexer makes of a written object.
+pub mod Digits
+pub mod Steps
+pub mod Written

@@ -1,0 +1,9 @@
+-- Laws that several proofs cite, here and in the crates above.
+pub mod Spelling
+pub mod Rings
+pub mod Rooms
+pub mod Masks
+pub mod Makings
+pub mod Meanings
+pub mod Faults
+pub mod Turning

@@ -1,0 +1,15 @@
+// The reader of a designer's text: tokens to records.
+pub mod dictionary;
+pub mod entries;
+pub mod frames;
+pub mod heads;
+pub mod making;
+pub mod names;
+pub mod opening;
+mod types;
+
+pub use types::Entry;
+pub use types::Head;
+pub use types::Inner;
+pub use types::Took;
+pub use types::Want;

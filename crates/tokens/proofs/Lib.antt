@@ -1,0 +1,3 @@
+-- Laws that several proofs cite, here and in the crates above.
+pub mod Runs
+pub mod Shutting
