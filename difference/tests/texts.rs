@@ -1,10 +1,7 @@
 //! Both implementations reply to each text of the table as was worked out by hand: the proved library however the text
 //! is cut into parts.
 
-#[path = "../../reference/tests/readings/mod.rs"]
-mod readings;
-
-use readings::Line;
+use reference::text::readings::{self, Line};
 use sktelbaan::TextReader;
 
 /// What the proved library replies to a text in parts, with its place as the table has it; its end asked for twice.

@@ -5,10 +5,12 @@
 //! palette run straight after its own."
 //!
 //! Clause 7.3 of ISO 32000-1 is in [`tokens`] and [`numbers`]. A refusal is a number with the byte that it is placed at.
+//! [`readings`] has a text for each reading of the request, with its reply worked out by hand.
 
 mod entries;
 pub mod generate;
 pub mod numbers;
+pub mod readings;
 #[cfg(test)]
 mod tests;
 pub mod tokens;

@@ -1,8 +1,6 @@
 //! The second implementation replies to each text of the table as was worked out by hand.
 
-mod readings;
-
-use reference::text::read;
+use reference::text::{read, readings};
 use std::collections::BTreeSet;
 
 #[test]

@@ -2,9 +2,9 @@
 //! the request and clause 7.3. Where a text is refused, what stands before the place and what stands from there on are
 //! written apart, so that the place is the length of the first.
 
-use reference::block::{Body, Record, DEVICE_CMYK, DEVICE_GRAY, DEVICE_RGB};
-use reference::numbers::ONE;
-use reference::records::{
+use crate::block::{Body, Record, DEVICE_CMYK, DEVICE_GRAY, DEVICE_RGB};
+use crate::numbers::ONE;
+use crate::records::{
     cal_gray, cal_rgb, indexed_run, lab, named, page, record, separation, NINE, USUAL, WHITE,
 };
 
@@ -13,7 +13,7 @@ const ROOM: usize = 64 * 512;
 
 /// A line of the table.
 pub struct Line {
-    /// The reading, in few words.
+    /// The reading, in few words that no other line has.
     pub name: String,
     /// The text.
     pub text: Vec<u8>,
@@ -109,7 +109,11 @@ fn number(written: &str, value: i32) -> Line {
         matrix: [value, 0, 0, 0, ONE, 0, 0, 0, ONE],
     };
     let text = format!("{BEFORE_NUMBER}{written}{AFTER_NUMBER}");
-    reads(&format!("the number {written}"), text, &[record(0, body)])
+    reads(
+        &format!("the number {written:.40}"),
+        text,
+        &[record(0, body)],
+    )
 }
 
 fn no_number(refusal: u32, written: &str) -> Line {
@@ -177,7 +181,7 @@ fn white_space_and_delimiters() -> Vec<Line> {
     ];
     for mark in ["{", "}", ")"] {
         lines.push(met(
-            "a delimiter that stands nowhere",
+            &format!("a delimiter that stands nowhere, {mark}"),
             12,
             "[/CalGray",
             format!("{mark}<<"),
@@ -319,13 +323,9 @@ fn outermost() -> Vec<Line> {
         "/ ",
         "99999 ",
     ] {
-        lines.push(met("outermost stands [ alone", 12, "", token));
-        lines.push(met(
-            "outermost stands [ alone, after a space",
-            12,
-            GRAY,
-            token,
-        ));
+        let name = format!("outermost stands [ alone and not {token}");
+        lines.push(met(&name, 12, "", token));
+        lines.push(met(&format!("{name}, after a space"), 12, GRAY, token));
     }
     lines.push(late("no space", 12, "", ""));
     lines.push(late("no space but white space", 12, " \0\n", ""));
@@ -1299,7 +1299,7 @@ fn unfinished() -> Vec<Line> {
         "[/Indexed/DeviceGray 0(a)",
         "[/Indexed[/Indexed/DeviceGray 0(a)]",
     ] {
-        lines.push(late("unfinished", 12, text, ""));
+        lines.push(late(&format!("unfinished, {text}"), 12, text, ""));
     }
     for text in [
         "(",
@@ -1317,7 +1317,12 @@ fn unfinished() -> Vec<Line> {
         ">",
         "[>",
     ] {
-        lines.push(late("unfinished and misplaced", 12, text, ""));
+        lines.push(late(
+            &format!("unfinished and misplaced, {text}"),
+            12,
+            text,
+            "",
+        ));
     }
     lines.push(late(
         "a whole space, then an unfinished string",
