@@ -1,5 +1,6 @@
 /* The edges of the C interface, checked: lists of none, the parts of a reply, answers of each kind, colours pulled in, inks by name, refusals in words, sizes, a
- * record of each kind. It is compiled as C and as C++, with the compiler's checks of addresses and of undefined behaviour, and prints what is not as it should be. */
+ * record of each kind, designers' texts, memory that nobody wrote. It is compiled as C and as C++, with the compiler's checks of addresses and of undefined
+ * behaviour, and prints what is not as it should be. */
 #include <stdio.h>
 #include <string.h>
 
@@ -181,7 +182,7 @@ static void inks(void) {
 /* Every refusal has a text of its own, and no other number has one. */
 static void texts(void) {
     const char *other = sktelbaan_refusal_text(0);
-    for (uint32_t n = SKTELBAAN_REFUSED_LENGTH; n <= SKTELBAAN_REFUSED_RECIPE; n++) {
+    for (uint32_t n = SKTELBAAN_REFUSED_LENGTH; n <= SKTELBAAN_REFUSED_TEXT_BLOCKS; n++) {
         expect("a refusal's text", strcmp(sktelbaan_refusal_text(n), other) != 0);
         for (uint32_t m = SKTELBAAN_REFUSED_LENGTH; m < n; m++)
             expect("two refusals' texts", strcmp(sktelbaan_refusal_text(n), sktelbaan_refusal_text(m)) != 0);
@@ -237,6 +238,69 @@ static void records(void) {
     }
 }
 
+/* Ends a text twice: its page, an accepted one, goes to the room, and no byte after it is written; of a refused text no byte at all. */
+static uint64_t end_text(struct sktelbaan_text *t, size_t room_len) {
+    static uint8_t room[(SKTELBAAN_MOST_BLOCKS + 1) * SKTELBAAN_BLOCK_BYTES];
+    uint64_t reply = 0;
+    for (int time = 0; time < 2; time++) {
+        memset(room, 0x55, sizeof room);
+        uint64_t again = sktelbaan_text_end(t, room, room_len);
+        size_t page_len = (size_t)sktelbaan_value(again) * SKTELBAAN_BLOCK_BYTES, kept = page_len;
+        while (kept < sizeof room && room[kept] == 0x55)
+            kept++;
+        expect("a text's room stays", page_len <= room_len && kept == sizeof room);
+        expect("a text's page is accepted", sktelbaan_refusal(again) != 0 || sktelbaan_validate(room, page_len) == 0);
+        expect("a text's end replies the same again", time == 0 || again == reply);
+        reply = again;
+    }
+    return reply;
+}
+
+#define GRAY "[/CalGray<</WhitePoint[0.9505 1 1.089]>>]"
+
+/* A text is read or refused: in its syntax, by what it has no room for, or by judging its page, the second space's block. */
+static void designers_texts(void) {
+    static const struct {
+        const char *text;
+        size_t room_len;
+        uint32_t refusal, blocks_or_byte;
+    } rows[] = {
+        {GRAY, SKTELBAAN_BLOCK_BYTES, 0, 1},
+        {GRAY GRAY, 3 * SKTELBAAN_BLOCK_BYTES, 0, 2},
+        {"", SKTELBAAN_BLOCK_BYTES, SKTELBAAN_REFUSED_TEXT_SYNTAX, 0},
+        {GRAY " 7 ", SKTELBAAN_BLOCK_BYTES, SKTELBAAN_REFUSED_TEXT_SYNTAX, 42},
+        {GRAY "[/CalGray<</Gamma", SKTELBAAN_BLOCK_BYTES, SKTELBAAN_REFUSED_TEXT_SYNTAX, 58},
+        {GRAY, SKTELBAAN_BLOCK_BYTES - 1, SKTELBAAN_REFUSED_ROOM, 40},
+        {GRAY, 0, SKTELBAAN_REFUSED_ROOM, 40},
+        {GRAY "[/Lab<</WhitePoint[1 .5 1]>>]", 2 * SKTELBAAN_BLOCK_BYTES, SKTELBAAN_REFUSED_NUMBER, 41},
+    };
+    static struct sktelbaan_text t;
+    for (size_t i = 0; i < sizeof rows / sizeof rows[0]; i++) {
+        expect("a text begins", sktelbaan_text_begin(&t) == 0);
+        expect("a text is read", sktelbaan_text_read(&t, (const uint8_t *)rows[i].text, strlen(rows[i].text), rows[i].room_len) == 0);
+        expect("a text's reply", end_text(&t, rows[i].room_len) == ((uint64_t)rows[i].blocks_or_byte << 32 | rows[i].refusal));
+    }
+}
+
+/* Memory that nobody wrote is answered, as it is and after a part of a text: of bytes FF, then of random ones. In most rounds its words are small, so that they
+ * say where a reading stands, and word 23 is 0, so that nothing is refused yet. */
+static void any_memory(void) {
+    static struct sktelbaan_text t;
+    uint8_t *bytes = (uint8_t *)&t;
+    uint64_t random = 1;
+    for (int round = 0; round < 200; round++) {
+        for (size_t i = 0; i < sizeof t; i++) {
+            random = random * 6364136223846793005u + 1442695040888963407u;
+            bytes[i] = round == 0 ? 0xff : (uint8_t)(random >> 56);
+        }
+        for (int k = 0; k < 25 && round % 4 != 0; k++)
+            t.words[k] %= k == 23 ? 1 : 16;
+        if (round % 2 == 0)
+            expect("a part of a text is read", sktelbaan_text_read(&t, (const uint8_t *)GRAY, strlen(GRAY), SKTELBAAN_BLOCK_BYTES) == 0);
+        end_text(&t, SKTELBAAN_MOST_BLOCKS * SKTELBAAN_BLOCK_BYTES);
+    }
+}
+
 /* The version's text is its numbers. */
 static void version(void) {
     char text[64];
@@ -254,6 +318,8 @@ int main(void) {
     texts();
     sizes();
     records();
+    designers_texts();
+    any_memory();
     version();
     return failed;
 }
