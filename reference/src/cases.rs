@@ -14,6 +14,7 @@
 //! | 33 | count COMPONENTS xWORDS | the answer of a recipe, whose words have four bytes each |
 //! | 34 | xPAGE | the listing, its lines joined by `; ` |
 //! | 35 | length length xPAGEPAGENAME | an ink by its name, of the job's page and the house page, whose lengths stand first: `found PAGE block B byte P` and `x` with the name's own bytes, or `refused N PAGE block B` |
+//! | 36 | room part xTEXT | a designer's text, read in parts of so many bytes (0: in one part) with so many bytes of room, each AA, and ended twice: `page N` and ` x` with the N blocks, or `refused N at B`; then ` kept` where the room past the blocks (all on a refusal) is AA still |
 //!
 //! An answer is what it is in, `Gray`, `RGB`, `CMYK`, `XYZ`, `NoMark` or `EveryInk`, and its floats, 16 hexadecimal
 //! digits each; after operations 31 and 33 then ` moved` where a limiting moved something. Or it is `refused N block B`.
@@ -41,11 +42,12 @@ mod recipes;
 mod runs;
 #[cfg(test)]
 mod tests;
+mod texts;
 
 pub use format::{answer_text, dotted, float_text, hex_of, reply_text, Case};
 
 /// All the worked cases, in the order in which they are put to the program: the paper's own, numbers and steps,
-/// one block by itself, pages, colours with their recipes, the Separations None and All, colours that are pulled in, and inks by name.
+/// one block by itself, pages, colours with their recipes, the Separations None and All, colours that are pulled in, inks by name, and designers' texts.
 pub fn all() -> Vec<Case> {
     let groups = [
         paper::cases,
@@ -59,6 +61,7 @@ pub fn all() -> Vec<Case> {
         marks::cases,
         moved::cases,
         inks::cases,
+        texts::cases,
     ];
     groups.iter().flat_map(|make| make()).collect()
 }

@@ -5,11 +5,8 @@
 // The numbers are decimal; the bytes are two hexadecimal digits each, or a full stop for a zero byte. The reference implementation writes the input and
 // what is expected of each line.
 mod asking;
-mod blocks;
-mod numbers;
 mod pages;
 mod run;
-mod steps;
 
 // A program ends: so many lines are read at the most.
 const LINES: usize = 100000;

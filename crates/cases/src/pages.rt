@@ -1,6 +1,7 @@
 // Cases of pages, colours, recipes and running them.
 use crate::asking::ink_case;
 use colour::evaluate;
+use designer_cases::text_case;
 use fixed::number_at;
 use fixed::of_signed;
 use lines::LONGEST;
@@ -148,7 +149,7 @@ fn list_case(page: &[u8]) {
     }
 }
 
-// Operations 30 to 35: validating, evaluating, writing a recipe, running one, listing, asking for an ink.
+// Operations 30 to 36: validating, evaluating, writing a recipe, running one, listing, asking for an ink, reading a text.
 pub fn page_case(op: u32, v: [i32; 24], bytes: &[u8]) {
     match op {
         30 => validate_case(bytes),
@@ -157,6 +158,7 @@ pub fn page_case(op: u32, v: [i32; 24], bytes: &[u8]) {
         33 => run_case(v, bytes),
         34 => list_case(bytes),
         35 => ink_case(v, bytes),
+        36 => text_case(v, bytes),
         _ => say(b"no such case"),
     }
 }

@@ -1,9 +1,9 @@
 // A case, which stands in a line.
-use crate::blocks::block_case;
-use crate::numbers::number_case;
 use crate::pages::page_case;
-use crate::steps::step_case;
 use fixed::of_signed;
+use small_cases::block_case;
+use small_cases::number_case;
+use small_cases::step_case;
 use text::bytes_at;
 use text::find;
 use text::numbers_at;

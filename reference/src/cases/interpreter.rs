@@ -13,6 +13,7 @@ use crate::numbers::{
     float_of, index, limit, palette_value, read_four, read_two, tint_power, tint_value,
 };
 use crate::page::validate;
+use crate::text::read;
 use crate::{recipe, runner};
 
 impl Case {
@@ -67,6 +68,9 @@ impl Case {
                 let (job, rest) = bytes.split_at_checked(usize::try_from(job).ok()?)?;
                 let (house, name) = rest.split_at_checked(usize::try_from(house).ok()?)?;
                 ink_text(job, house, name)
+            }
+            (36, &[room, part], Some(text)) if part >= 0 => {
+                page_text(text, usize::try_from(room).ok()?)
             }
             _ => return None,
         };
@@ -174,6 +178,15 @@ fn ink_text(job: &[u8], house: &[u8], name: &[u8]) -> String {
     match reply {
         Ok(ink) => format!("{text} x{}", dotted(ink.name)),
         Err(_) => text,
+    }
+}
+
+/// What reading a text into this many bytes of room, each AA, gives, in words. Into how many parts it is cut changes
+/// nothing, nor does asking for its end again.
+fn page_text(text: &[u8], room: usize) -> String {
+    match read(text, room / BLOCK) {
+        Ok(page) => format!("page {} x{} kept", page.len() / BLOCK, dotted(&page)),
+        Err((number, at)) => format!("refused {number} at {at} kept"),
     }
 }
 

@@ -1,4 +1,4 @@
-//! Gathering cases: one call for each operation on blocks, pages, colours and recipes.
+//! Gathering cases: one call for each operation on blocks, pages, texts, colours and recipes.
 
 use super::format::{bytes_of, numbers_of, Case};
 use crate::block::{lay, Record};
@@ -67,6 +67,11 @@ impl Maker {
     pub(super) fn ink(&mut self, label: &str, job: &[u8], house: &[u8], name: &[u8]) {
         let lengths = [job.len() as i32, house.len() as i32];
         self.add(35, label, &lengths, Some(&[job, house, name].concat()));
+    }
+
+    /// Reads a text with so many bytes of room, in parts of so many bytes.
+    pub(super) fn text(&mut self, label: &str, room: usize, part: usize, text: &[u8]) {
+        self.add(36, label, &[room as i32, part as i32], Some(text));
     }
 
     /// Evaluates a colour.

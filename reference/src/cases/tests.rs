@@ -6,6 +6,7 @@ use super::*;
 use crate::block::BODY;
 use crate::cie::Answer;
 use crate::colour::Colour;
+use crate::text::readings;
 use std::collections::{BTreeSet, HashSet};
 
 fn reply(label: &str) -> String {
@@ -49,6 +50,7 @@ fn the_cases_are_well_formed() {
     assert_eq!(ops(&marks::cases()), [30, 31, 32, 33, 34]);
     assert_eq!(ops(&moved::cases()), [31, 33]);
     assert_eq!(ops(&inks::cases()), [35]);
+    assert_eq!(ops(&texts::cases()), [36]);
     assert_eq!(input_text(&cases).lines().count(), cases.len());
     assert_eq!(output_text(&cases).lines().count(), cases.len());
 }
@@ -118,8 +120,9 @@ fn every_refusal_is_reached() {
         (33, &[9, 11]),
         (34, &[1, 2, 4]),
         (35, &[1, 3, 8]),
+        (36, &[4, 5, 6, 7, 10, 12, 13, 14, 15]),
     ] {
-        let found: Vec<u32> = (1..=11).filter(|number| met(op, *number)).collect();
+        let found: Vec<u32> = (1..=15).filter(|number| met(op, *number)).collect();
         assert_eq!(found, expected, "operation {op}");
     }
     // A refusal of writing keeps every byte and word.
@@ -127,8 +130,26 @@ fn every_refusal_is_reached() {
         if *op == 21 && reply.starts_with("refused") {
             assert!(reply.ends_with(" kept"), "{reply}");
         }
-        if *op == 32 {
+        if *op == 32 || *op == 36 {
             assert!(reply.contains(" kept"), "{reply}");
+        }
+    }
+}
+
+#[test]
+fn texts_reply_as_was_worked_by_hand() {
+    let cases = texts::cases();
+    let table = readings::table();
+    assert_eq!(cases.len(), texts::CUTS.len() * table.len());
+    for (line, cases) in table.iter().zip(cases.chunks(texts::CUTS.len())) {
+        let expected = match &line.reply {
+            Ok(page) => format!("page {} x{} kept", page.len() / 512, dotted(page)),
+            Err((number, at)) => format!("refused {number} at {at} kept"),
+        };
+        for case in cases {
+            assert_eq!(case.bytes.as_ref(), Some(&line.text), "{}", case.label);
+            assert_eq!(case.args[0], line.room as i32, "{}", case.label);
+            assert_eq!(case.result().as_ref(), Some(&expected), "{}", case.label);
         }
     }
 }

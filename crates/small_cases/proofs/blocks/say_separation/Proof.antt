@@ -2,8 +2,8 @@
 use mathlib.Core.Path.{sym}
 use lib.Seq.{length-take-le}
 use borrow.Author.Needs.{needs}
-use Rattle.cases.proofs.blocks.say_separation.Statement.{statement}
-use Rattle.cases.proofs.blocks.say_separation.Tie as tie
+use Rattle.small_cases.proofs.blocks.say_separation.Statement.{statement}
+use Rattle.small_cases.proofs.blocks.say_separation.Tie as tie
 
 slice-aggregate-say : tie.Need-slice-aggregate-say
 slice-aggregate-say c = search needs

@@ -262,7 +262,8 @@ fn room_of(s: &[u8]) -> [u8; 504] {
     bytes
 }
 
-fn is_kept(s: &[u8]) -> bool {
+// Whether each byte is AA.
+pub fn is_kept(s: &[u8]) -> bool {
     let mut i: usize = 0;
     while i < s.len() {
         if s[i] != 0xaa {

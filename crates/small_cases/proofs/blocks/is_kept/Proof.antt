@@ -2,8 +2,8 @@
 use Prim.Native.Nat.{_-_}
 use lib.ListN.{length}
 use borrow.Author.Needs.{needs}
-use Rattle.cases.proofs.blocks.is_kept.Statement.{statement}
-use Rattle.cases.proofs.blocks.is_kept.Tie as tie
+use Rattle.small_cases.proofs.blocks.is_kept.Statement.{statement}
+use Rattle.small_cases.proofs.blocks.is_kept.Tie as tie
 
 abbrev Inv-loop : tie.InvT-loop
 Inv-loop s i₀ i = Unit {0}

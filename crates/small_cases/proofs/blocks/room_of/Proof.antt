@@ -1,8 +1,8 @@
 -- The bytes of the text go into the room, no more of them than it has.
 use Prim.Native.Nat.{_≤_, _-_}
 use borrow.Author.Needs.{needs}
-use Rattle.cases.proofs.blocks.room_of.Statement.{statement}
-use Rattle.cases.proofs.blocks.room_of.Tie as tie
+use Rattle.small_cases.proofs.blocks.room_of.Statement.{statement}
+use Rattle.small_cases.proofs.blocks.room_of.Tie as tie
 
 abbrev Inv-loop : tie.InvT-loop
 Inv-loop s bytes₀ i₀ bytes i = (i ≤ 504)

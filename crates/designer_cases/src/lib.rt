@@ -1,0 +1,4 @@
+// Cases of designers' texts, for the program `cases`.
+mod texts;
+
+pub use texts::text_case;
