@@ -99,7 +99,26 @@ fn say_reply(r: Reply, room: &[u8]) {
     }
 }
 
-// Reads a text into room that holds AA, over memory that nobody has cleared, and ends it twice.
+// Ends a text twice, and says what the second end replies, and where the first replied otherwise.
+fn end_twice(
+    room: &mut [u8],
+    words: &mut [u64],
+    values: &mut [i32],
+    word: &[u8],
+    marks: &mut [u32],
+    names: &mut [u8],
+    opens: &mut [u32],
+    blocks: &mut [u8],
+) {
+    let first = designer::end(room, words, values, word, marks, names, opens, blocks);
+    let second = designer::end(room, words, values, word, marks, names, opens, blocks);
+    say_reply(second, room);
+    if !is_same(first, second) {
+        say(b" not as before");
+    }
+}
+
+// Reads a text into room that holds AA, over memory that nobody has cleared.
 fn read_into(room: &mut [u8], size: usize, text: &[u8]) {
     let mut words = [7u64; designer::WORDS];
     let mut values = [7i32; designer::VALUES];
@@ -129,7 +148,7 @@ fn read_into(room: &mut [u8], size: usize, text: &[u8]) {
         &mut opens,
         &mut blocks,
     );
-    let first = designer::end(
+    end_twice(
         room,
         &mut words,
         &mut values,
@@ -139,20 +158,6 @@ fn read_into(room: &mut [u8], size: usize, text: &[u8]) {
         &mut opens,
         &mut blocks,
     );
-    let second = designer::end(
-        room,
-        &mut words,
-        &mut values,
-        &word,
-        &mut marks,
-        &mut names,
-        &mut opens,
-        &mut blocks,
-    );
-    say_reply(second, room);
-    if !is_same(first, second) {
-        say(b" not as before");
-    }
 }
 
 // Operation 36: a text in parts, with its room and the size of a part before it.
