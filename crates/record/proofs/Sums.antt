@@ -1,23 +1,20 @@
 -- The two sums of a check, by the columns of a block of 16 rows and 32 columns.
-use mathlib.Core.Path.{_≡_, sym, ap, _∙_}
+use mathlib.Core.Path.{_≡_, refl, sym, ap, _∙_, subst}
+use mathlib.Core.Logic.{_≢_}
 use mathlib.Core.List.{List}
-use Prim.Native.Nat.{ℕ, _+_, _-_, _*_, _<_, _≤_}
-use native.Mathlib.Nat.{add-mul, mul-assoc, mul-le-mul}
+use Prim.Native.Nat.{ℕ, _+_, _-_, _*_, _/_, _%_, _<_, _≤_}
+use native.Mathlib.Nat.{add-mul, mul-add, mul-assoc, mul-comm, mul-le-mul, le-refl}
 use native.Mathlib.Omega.{arith}
+use native.Mathlib.Decide.{decLt}
+use lib.ListN.{length, getD, set, replicate, length-set, length-replicate}
+use lib.Seq.{getD-set-same, getD-set-other}
 use Rattle.fixed.specs.Bytes.{byteAt}
 use Rattle.fixed.specs.Loops.{total}
+use Rattle.fixed.proofs.Listed.{zeros-at}
 use Rattle.fixed.proofs.Totals.{total-step, total-same, total-zero, total-four, total-plus, total-times, total-columns, total-running}
-use Rattle.record.specs.Columns.{downTo, columnSum, columnRunning}
+use Rattle.record.specs.Columns.{downTo, columnSum, columnRunning, Down, DownAll, Across}
 
 -- ---- A column, row by row
-
--- after m rows of column k: its sum, its sums down to each row summed, and neither is large
-pub record Down (b : List ℕ) (k sum running m : ℕ) : Type 0 where
-  pub within : m ≤ 16
-  pub sum-is : sum ≡ downTo b k m
-  pub running-is : running ≡ total (λ j. downTo b k (j + 1)) m
-  pub sum-most : sum ≤ 255 * m
-  pub running-most : running ≤ 4080 * m
 
 -- one row more
 pub down : (b : List ℕ) (k sum running m x : ℕ) → Down b k sum running m → m < 16 → x ≡ byteAt b (32 * m + k) → x ≤ 255
@@ -32,17 +29,58 @@ down b k sum running m x a h e l =
       running-most = omega (arith, a .sum-most, a .running-most);
     }
 
--- ---- The block, column by column
+-- above the first row there is nothing
+pub above : (b : List ℕ) → DownAll b (replicate 32 0) (replicate 32 0) 0
+unfolding total
+above b = record {
+  sums-long = length-replicate {A = ℕ} 32 0;
+  runnings-long = length-replicate {A = ℕ} 32 0;
+  column = λ k h. record {
+    within = omega arith;
+    sum-is = zeros-at 32 k;
+    running-is = zeros-at 32 k;
+    sum-most = omega (arith, zeros-at 32 k);
+    running-most = omega (arith, zeros-at 32 k);
+  };
+}
 
--- after k columns
-pub record Across (b : List ℕ) (sum running over k : ℕ) : Type 0 where
+-- a row in the making: the columns below k have it, the others do not yet
+pub record Turned (b sums runnings : List ℕ) (m k : ℕ) : Type 0 where
   pub within : k ≤ 32
-  pub sum-is : sum ≡ total (λ j. columnSum b j) k
-  pub running-is : running ≡ total (λ j. columnRunning b j) k
-  pub over-is : over ≡ total (λ j. (j + 4) * columnSum b j) k
-  pub sum-most : sum ≤ 4080 * k
-  pub running-most : running ≤ 65280 * k
-  pub over-most : over ≤ 146880 * k
+  pub sums-long : length sums ≡ 32
+  pub runnings-long : length runnings ≡ 32
+  pub done : (j : ℕ) → j < k → Down b j (getD sums j 0) (getD runnings j 0) (m + 1)
+  pub left : (j : ℕ) → k ≤ j → j < 32 → Down b j (getD sums j 0) (getD runnings j 0) m
+
+-- one column more
+module _ (b sums runnings : List ℕ) (m k x : ℕ) (a : Turned b sums runnings m k) (hm : m < 16) (hk : k < 32) (e : x ≡ byteAt b (32 * m + k)) (l : x ≤ 255) where
+  abbrev pub sumMore : ℕ
+  sumMore = getD sums k 0 + x
+
+  abbrev pub runningMore : ℕ
+  runningMore = getD runnings k 0 + sumMore
+
+  here : Down b k (getD (set sums k sumMore) k 0) (getD (set runnings k runningMore) k 0) (m + 1)
+  here = rw (getD-set-same sums k sumMore 0 (rw (a .sums-long) hk), getD-set-same runnings k runningMore 0 (rw (a .runnings-long) hk))
+      (down b k (getD sums k 0) (getD runnings k 0) m x (a .left k (le-refl k) hk) hm e l)
+
+  elsewhere : (j n : ℕ) → j ≢ k → Down b j (getD sums j 0) (getD runnings j 0) n → Down b j (getD (set sums k sumMore) j 0) (getD (set runnings k runningMore) j 0) n
+  elsewhere j n h d = rw (getD-set-other sums k j sumMore 0 h, getD-set-other runnings k j runningMore 0 h) d
+
+  upTo : (j : ℕ) → Dec (j < k) → j < k + 1 → Down b j (getD (set sums k sumMore) j 0) (getD (set runnings k runningMore) j 0) (m + 1)
+  upTo j (yes h) _ = elsewhere j (m + 1) (λ q. absurd (omega (arith, q, h))) (a .done j h)
+  upTo j (no h) u = let q : j ≡ k = omega arith in rw q here
+
+  pub turned : Turned b (set sums k sumMore) (set runnings k runningMore) m (k + 1)
+  turned = record {
+    within = omega arith;
+    sums-long = length-set sums k sumMore ∙ a .sums-long;
+    runnings-long = length-set runnings k runningMore ∙ a .runnings-long;
+    done = λ j h. upTo j (decLt j k) h;
+    left = λ j h g. elsewhere j m (λ q. absurd (omega (arith, q, h))) (a .left j (omega arith) g);
+  }
+
+-- ---- The block, column by column
 
 pub product : (k s : ℕ) → k < 32 → s ≤ 4080 → (k + 4) * s ≤ 146880
 product k s h l = mul-le-mul {n₂ = 36} {m₂ = 4080} (omega arith) l
@@ -60,6 +98,90 @@ across b sum running over k s t a h es et ls lt =
       sum-most = omega (arith, a .sum-most);
       running-most = omega (arith, a .running-most);
       over-most = omega (arith, a .over-most);
+    }
+
+-- a sum of 64s and what is left, as often as a place and 4 more
+in-parts : (k h l : ℕ) → (k + 4) * (64 * h + l) ≡ 64 * (k * h) + k * l + 4 * (64 * h + l)
+in-parts k h l =
+    add-mul k 4 (64 * h + l) ∙ ap (λ (x : ℕ). x + 4 * (64 * h + l))
+    (mul-add k (64 * h) l ∙ ap (λ (x : ℕ). x + k * l) (sym (mul-assoc k 64 h) ∙ ap (λ (x : ℕ). x * h) (mul-comm k 64) ∙ mul-assoc 64 k h))
+
+-- after k columns, with every sum in 64s and what is left, and every running in 256s
+pub record Parted (b : List ℕ) (sh sl rh rl ph pl k : ℕ) : Type 0 where
+  pub across : Across b (64 * sh + sl) (256 * rh + rl) (64 * ph + pl + 4 * (64 * sh + sl)) k
+  pub sh-most : sh ≤ 63 * k
+  pub sl-most : sl ≤ 63 * k
+  pub rh-most : rh ≤ 255 * k
+  pub rl-most : rl ≤ 255 * k
+  pub ph-most : ph ≤ 1953 * k
+  pub pl-most : pl ≤ 1953 * k
+
+-- before the first column there is nothing
+pub aside : (b : List ℕ) → Parted b 0 0 0 0 0 0 0
+unfolding total
+aside b = record {
+  across = record { within = omega arith; sum-is = refl; running-is = refl; over-is = refl; sum-most = omega arith; running-most = omega arith; over-most = omega arith };
+  sh-most = omega arith;
+  sl-most = omega arith;
+  rh-most = omega arith;
+  rl-most = omega arith;
+  ph-most = omega arith;
+  pl-most = omega arith;
+}
+
+-- the parts of one column: they come to its sum and its running, and none is large
+pub record Parts (k s t : ℕ) : Type 0 where
+  pub sum-is : 64 * (s / 64) + s % 64 ≡ s
+  pub running-is : 256 * (t / 256) + t % 256 ≡ t
+  pub high-most : s / 64 ≤ 63
+  pub low-most : s % 64 ≤ 63
+  pub running-high-most : t / 256 ≤ 255
+  pub running-low-most : t % 256 ≤ 255
+  pub place-high-most : k * (s / 64) ≤ 1953
+  pub place-low-most : k * (s % 64) ≤ 1953
+
+pub parts : (b : List ℕ) (k s t : ℕ) → k < 32 → Down b k s t 16 → Parts k s t
+parts b k s t h d =
+    let ls : s ≤ 4080 = omega (arith, d .sum-most) in
+    let lt : t ≤ 65280 = omega (arith, d .running-most) in
+    let high : s / 64 ≤ 63 = omega arith in
+    let low : s % 64 ≤ 63 = omega arith in
+    record {
+      sum-is = omega arith;
+      running-is = omega arith;
+      high-most = high;
+      low-most = low;
+      running-high-most = omega arith;
+      running-low-most = omega arith;
+      place-high-most = mul-le-mul {n₂ = 31} {m₂ = 63} (omega arith) high;
+      place-low-most = mul-le-mul {n₂ = 31} {m₂ = 63} (omega arith) low;
+    }
+
+-- one column more
+pub parted : (b : List ℕ) (sh sl rh rl ph pl k s t : ℕ) → Parted b sh sl rh rl ph pl k → k < 32 → Down b k s t 16
+    → Parted b (sh + s / 64) (sl + s % 64) (rh + t / 256) (rl + t % 256) (ph + k * (s / 64)) (pl + k * (s % 64)) (k + 1)
+unfolding columnSum columnRunning
+parted b sh sl rh rl ph pl k s t a h d =
+    let ls : s ≤ 4080 = omega (arith, d .sum-most) in
+    let lt : t ≤ 65280 = omega (arith, d .running-most) in
+    let q = parts b k s t h d in
+    let next = across b (64 * sh + sl) (256 * rh + rl) (64 * ph + pl + 4 * (64 * sh + sl)) k s t (a .across) h (d .sum-is) (d .running-is) ls lt in
+    let weighted : (k + 4) * s ≡ 64 * (k * (s / 64)) + k * (s % 64) + 4 * s =
+    subst (λ (x : ℕ). (k + 4) * x ≡ 64 * (k * (s / 64)) + k * (s % 64) + 4 * x) (q .sum-is) (in-parts k (s / 64) (s % 64)) in
+    let e : 64 * sh + sl + s ≡ 64 * (sh + s / 64) + (sl + s % 64) = omega (arith, q .sum-is) in
+    let f : 256 * rh + rl + t ≡ 256 * (rh + t / 256) + (rl + t % 256) = omega (arith, q .running-is) in
+    let g : 64 * ph + pl + 4 * (64 * sh + sl) + (k + 4) * s ≡ 64 * (ph + k * (s / 64)) + (pl + k * (s % 64)) + 4 * (64 * (sh + s / 64) + (sl + s % 64)) =
+    omega (arith, q .sum-is, weighted) in
+    record {
+      across = subst (λ (x : ℕ). Across b (64 * (sh + s / 64) + (sl + s % 64)) (256 * (rh + t / 256) + (rl + t % 256)) x (k + 1)) g
+          (subst (λ (x : ℕ). Across b (64 * (sh + s / 64) + (sl + s % 64)) x (64 * ph + pl + 4 * (64 * sh + sl) + (k + 4) * s) (k + 1)) f
+          (subst (λ (x : ℕ). Across b x (256 * rh + rl + t) (64 * ph + pl + 4 * (64 * sh + sl) + (k + 4) * s) (k + 1)) e next));
+      sh-most = omega (arith, a .sh-most, q .high-most);
+      sl-most = omega (arith, a .sl-most, q .low-most);
+      rh-most = omega (arith, a .rh-most, q .running-high-most);
+      rl-most = omega (arith, a .rl-most, q .running-low-most);
+      ph-most = omega (arith, a .ph-most, q .place-high-most);
+      pl-most = omega (arith, a .pl-most, q .place-low-most);
     }
 
 -- ---- What the columns come to
@@ -123,12 +245,12 @@ pub record Settled (b : List ℕ) (sum running over p q r s : ℕ) : Type 0 wher
   pub over-least : over ≤ 32 * running + q + 2 * r + 3 * s
   pub weighed-is : 32 * running + q + 2 * r + 3 * s - over ≡ total (λ i. (508 - i) * byteAt b i) 508
 
-pub settles : (b : List ℕ) (sum running over k p q r s : ℕ) → Across b sum running over k → k ≡ 32
+pub settles : (b : List ℕ) (sum running over p q r s : ℕ) → Across b sum running over 32
     → p ≡ byteAt b 508 → q ≡ byteAt b 509 → r ≡ byteAt b 510 → s ≡ byteAt b 511 → Settled b sum running over p q r s
-settles b sum running over k p q r s a e ep eq er es =
-    let x : sum ≡ total (λ j. columnSum b j) 32 = a .sum-is ∙ ap (total (λ j. columnSum b j)) e in
-    let y : running ≡ total (λ j. columnRunning b j) 32 = a .running-is ∙ ap (total (λ j. columnRunning b j)) e in
-    let z : over ≡ total (λ j. (j + 4) * columnSum b j) 32 = a .over-is ∙ ap (total (λ j. (j + 4) * columnSum b j)) e in
+settles b sum running over p q r s a ep eq er es =
+    let x = a .sum-is in
+    let y = a .running-is in
+    let z = a .over-is in
     let u = sum-columns b in
     let v = weigh-columns b in
     record { sum-least = omega arith; plain-is = omega arith; over-least = omega arith; weighed-is = omega arith }

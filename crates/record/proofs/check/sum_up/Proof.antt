@@ -1,150 +1,112 @@
--- `sum_up` goes across the columns, and takes the last four bytes off.
+-- `sum_up` takes the last four bytes off what the columns come to.
 use mathlib.Core.Path.{ap}
-use Prim.Native.Nat.{ℕ, _-_, _*_, _%_}
+use Prim.Native.Nat.{ℕ, _%_}
 use native.Mathlib.Omega.{arith}
-use lib.ListN.{drop}
-use Rattle.fixed.specs.Loops.{total}
 use Rattle.record.specs.Layout.{plain, weighed}
-use Rattle.record.proofs.Sums.{Across, product, across, settles}
+use Rattle.record.proofs.Sums.{settles}
 use borrow.Author.Needs.{needs}
 use Rattle.record.proofs.check.sum_up.Statement.{statement}
 use Rattle.record.proofs.check.sum_up.Tie as tie
 
-abbrev Inv-loop : tie.InvT-loop
-Inv-loop page n sum₀ running₀ over₀ k₀ sum running over k = Across (drop (512 * n) page) sum running over k
+-- src/check.rt:112:9
+sum-columns-requires : tie.Need-sum-columns-requires
+sum-columns-requires c κs = search needs
 
-abbrev μ-loop : tie.MeasureT-loop
-μ-loop page n sum₀ running₀ over₀ k₀ sum running over k = 32 - k
-
-loop-holds : tie.Need-loop-holds Inv-loop μ-loop
-unfolding total
-loop-holds c = search needs
-
-sum-column-requires : tie.Need-sum-column-requires Inv-loop μ-loop
-sum-column-requires c κs = search needs
-
-cast-s : tie.Need-cast-s Inv-loop μ-loop
-cast-s c = search needs
-
-add-sum : tie.Need-add-sum Inv-loop μ-loop
-add-sum c = search needs
-
-cast-running : tie.Need-cast-running Inv-loop μ-loop
-cast-running c = search needs
-
-add-running : tie.Need-add-running Inv-loop μ-loop
-add-running c = search needs
-
-cast-over : tie.Need-cast-over Inv-loop μ-loop
-cast-over c = search needs
-
-add-over : tie.Need-add-over Inv-loop μ-loop
-add-over c = search needs
-
-mul-over : tie.Need-mul-over Inv-loop μ-loop
-mul-over c = omega (arith, product (c .before .before .before .before .loop .k) (c .before .before .sum-column .result .sum) (c .before .before .before .loop-test .taken) (c .before .before .sum-column .ensures .1 .0))
-
-add-over-2 : tie.Need-add-over-2 Inv-loop μ-loop
-add-over-2 c = omega (arith, c .before .before .before .before .loop .inv .over-most, product (c .before .before .before .before .loop .k) (c .before .before .sum-column .result .sum) (c .before .before .before .loop-test .taken) (c .before .before .sum-column .ensures .1 .0))
-
-add-k : tie.Need-add-k Inv-loop μ-loop
-add-k c = search needs
-
-loop-less : tie.Need-loop-less Inv-loop μ-loop
-loop-less c = search needs
-
-loop-again : tie.Need-loop-again Inv-loop μ-loop
-loop-again c =
-    let e = c .before .before .sum-column .ensures in
-    across _ _ _ _ (c .before .before .before .before .loop .k) (c .before .before .sum-column .result .sum) (c .before .before .sum-column .result .running) (c .before .before .before .before .loop .inv) (c .before .before .before .loop-test .taken) (e .0 .0) (e .0 .1) (e .1 .0) (e .1 .1)
-
-byte-at-requires : tie.Need-byte-at-requires Inv-loop μ-loop
+-- src/check.rt:113:9
+byte-at-requires : tie.Need-byte-at-requires
 byte-at-requires c κs = search needs
 
-byte-at-requires-2 : tie.Need-byte-at-requires-2 Inv-loop μ-loop
+-- src/check.rt:114:9
+byte-at-requires-2 : tie.Need-byte-at-requires-2
 byte-at-requires-2 c κs = search needs
 
-byte-at-requires-3 : tie.Need-byte-at-requires-3 Inv-loop μ-loop
+-- src/check.rt:115:9
+byte-at-requires-3 : tie.Need-byte-at-requires-3
 byte-at-requires-3 c κs = search needs
 
-byte-at-requires-4 : tie.Need-byte-at-requires-4 Inv-loop μ-loop
+-- src/check.rt:116:9
+byte-at-requires-4 : tie.Need-byte-at-requires-4
 byte-at-requires-4 c κs = search needs
 
-add-t17 : tie.Need-add-t17 Inv-loop μ-loop
-add-t17 c = search needs
+-- src/check.rt:118:26
+add-t8 : tie.Need-add-t8
+add-t8 c = search needs
 
-add-t18 : tie.Need-add-t18 Inv-loop μ-loop
-add-t18 c = search needs
+-- src/check.rt:118:26
+add-t9 : tie.Need-add-t9
+add-t9 c = search needs
 
-add-t19 : tie.Need-add-t19 Inv-loop μ-loop
-add-t19 c = search needs
+-- src/check.rt:118:26
+add-t10 : tie.Need-add-t10
+add-t10 c = search needs
 
-sub-t20 : tie.Need-sub-t20 Inv-loop μ-loop
-sub-t20 c =
-    let z = settles _ _ _ _ _ (c .before .before .before .byte-at .result) (c .before .before .byte-at2 .result) (c .before .byte-at3 .result) (c .byte-at4 .result) (c .before .before .before .before .before .loop .inv) (omega (arith, c .before .before .before .before .before .loop .inv .within)) (c .before .before .before .byte-at .ensures .0) (c .before .before .byte-at2 .ensures .0) (c .before .byte-at3 .ensures .0) (c .byte-at4 .ensures .0) in
+-- src/check.rt:118:17
+sub-t11 : tie.Need-sub-t11
+sub-t11 c =
+    let last = c .before in
+    let first = last .before .before .before in
+    let z = settles _ _ _ _ _ _ _ _ (first .before .sum-columns .ensures) (first .byte-at .ensures .0) (last .before .before .byte-at2 .ensures .0) (last .before .byte-at3 .ensures .0) (last .byte-at4 .ensures .0) in
     omega (arith, z .sum-least)
 
-mul-t22 : tie.Need-mul-t22 Inv-loop μ-loop
-mul-t22 c = search needs
+-- src/check.rt:119:19
+mul-t13 : tie.Need-mul-t13
+mul-t13 c = search needs
 
-add-t23 : tie.Need-add-t23 Inv-loop μ-loop
-add-t23 c = search needs
+-- src/check.rt:119:19
+add-t14 : tie.Need-add-t14
+add-t14 c = search needs
 
-mul-t24 : tie.Need-mul-t24 Inv-loop μ-loop
-mul-t24 c = search needs
+-- src/check.rt:119:40
+mul-t15 : tie.Need-mul-t15
+mul-t15 c = search needs
 
-add-t25 : tie.Need-add-t25 Inv-loop μ-loop
-add-t25 c = search needs
+-- src/check.rt:119:19
+add-t16 : tie.Need-add-t16
+add-t16 c = search needs
 
-mul-t26 : tie.Need-mul-t26 Inv-loop μ-loop
-mul-t26 c = search needs
+-- src/check.rt:119:48
+mul-t17 : tie.Need-mul-t17
+mul-t17 c = search needs
 
-add-t27 : tie.Need-add-t27 Inv-loop μ-loop
-add-t27 c = search needs
+-- src/check.rt:119:19
+add-t18 : tie.Need-add-t18
+add-t18 c = search needs
 
-sub-t28 : tie.Need-sub-t28 Inv-loop μ-loop
-sub-t28 c =
-    let z = settles _ _ _ _ _ (c .before .before .before .byte-at .result) (c .before .before .byte-at2 .result) (c .before .byte-at3 .result) (c .byte-at4 .result) (c .before .before .before .before .before .loop .inv) (omega (arith, c .before .before .before .before .before .loop .inv .within)) (c .before .before .before .byte-at .ensures .0) (c .before .before .byte-at2 .ensures .0) (c .before .byte-at3 .ensures .0) (c .byte-at4 .ensures .0) in
+-- src/check.rt:119:19
+sub-t19 : tie.Need-sub-t19
+sub-t19 c =
+    let last = c .before .before .before in
+    let first = last .before .before .before in
+    let z = settles _ _ _ _ _ _ _ _ (first .before .sum-columns .ensures) (first .byte-at .ensures .0) (last .before .before .byte-at2 .ensures .0) (last .before .byte-at3 .ensures .0) (last .byte-at4 .ensures .0) in
     omega (arith, z .over-least)
 
-returns : tie.Need-returns Inv-loop μ-loop
+-- src/check.rt:108:1
+returns : tie.Need-returns
 unfolding plain weighed
 returns c =
-    let z = settles _ _ _ _ _ (c .before .before .before .byte-at .result) (c .before .before .byte-at2 .result) (c .before .byte-at3 .result) (c .byte-at4 .result) (c .before .before .before .before .before .loop .inv) (omega (arith, c .before .before .before .before .before .loop .inv .within)) (c .before .before .before .byte-at .ensures .0) (c .before .before .byte-at2 .ensures .0) (c .before .byte-at3 .ensures .0) (c .byte-at4 .ensures .0) in
+    let last = c .before .before .before in
+    let first = last .before .before .before in
+    let z = settles _ _ _ _ _ _ _ _ (first .before .sum-columns .ensures) (first .byte-at .ensures .0) (last .before .before .byte-at2 .ensures .0) (last .before .byte-at3 .ensures .0) (last .byte-at4 .ensures .0) in
     (ap (λ (x : ℕ). x % 65535) (z .plain-is), ap (λ (x : ℕ). x % 65535) (z .weighed-is))
 
 pub sum-up-spec : {M : Type 1} → statement M
 sum-up-spec =
     tie.close
     (tie.spec
-    Inv-loop
-    μ-loop
-    loop-holds
-    sum-column-requires
-    cast-s
-    add-sum
-    cast-running
-    add-running
-    cast-over
-    add-over
-    mul-over
-    add-over-2
-    add-k
-    loop-less
-    loop-again
+    sum-columns-requires
     byte-at-requires
     byte-at-requires-2
     byte-at-requires-3
     byte-at-requires-4
-    add-t17
+    add-t8
+    add-t9
+    add-t10
+    sub-t11
+    mul-t13
+    add-t14
+    mul-t15
+    add-t16
+    mul-t17
     add-t18
-    add-t19
-    sub-t20
-    mul-t22
-    add-t23
-    mul-t24
-    add-t25
-    mul-t26
-    add-t27
-    sub-t28
+    sub-t19
     returns)
