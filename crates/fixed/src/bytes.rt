@@ -3,7 +3,7 @@
 // A number is read at a place of a block: byte `at` of block n of a page. A block that stands alone is block 0. A byte past the end is 0.
 ghost use mathlib.Core.Path.{_≡_};
 ghost use Prim.Native.Nat.{_+_, _%_, _<_, _≤_};
-ghost use lib.ListN.{length};
+ghost use lib.ListN.{length, drop};
 ghost use lib.Seq.{sets};
 ghost use Rattle.fixed.specs.Bytes.{blockAt, byteAt, twoAt, fourAt, numberAt, signed, bits, twoBytes, fourBytes, numberBytes};
 use crate::rounding::lowered;
@@ -49,15 +49,34 @@ pub fn byte_at(page: &[u8], n: u32, at: u32) -> u32
     if k < page.len() { byte_of(page, k) } else { 0 }
 }
 
+// Byte `at` of the part of a page from byte `start` on, which has it.
+pub fn byte_in(page: &[u8], start: usize, at: usize) -> u32
+    requires { ⌜ start + at < length (now page) ⌝ }
+    ensures is { λ r. ⌜ r ≡ byteAt (drop start (now (page .entry))) at ⌝ }
+    ensures small { λ r. ⌜ r ≤ 255 ⌝ }
+{
+    byte_of(page, start + at)
+}
+
+// The number in its two bytes from `at` on, which it has.
+pub fn two_in(page: &[u8], start: usize, at: usize) -> u32
+    requires { ⌜ start + at + 2 ≤ length (now page) ⌝ }
+    ensures is { λ r. ⌜ r ≡ twoAt (drop start (now (page .entry))) at ⌝ }
+    ensures small { λ r. ⌜ r ≤ 65535 ⌝ }
+{
+    byte_in(page, start, at) * 256 + byte_in(page, start, at + 1)
+}
+
 // The number in the two bytes from `at` on of block n.
 pub fn two_at(page: &[u8], n: u32, at: u32) -> u32
     requires { ⌜ at < 512 ⌝ }
     ensures is { λ r. ⌜ r ≡ twoAt (blockAt (now (page .entry)) n) at ⌝ }
     ensures small { λ r. ⌜ r ≤ 65535 ⌝ }
 {
-    let k = 512 * (n as usize) + (at as usize);
-    if k + 2 <= page.len() {
-        return byte_of(page, k) * 256 + byte_of(page, k + 1);
+    let start = 512 * (n as usize);
+    let from = at as usize;
+    if start + from + 2 <= page.len() {
+        return two_in(page, start, from);
     }
     byte_at(page, n, at) * 256 + byte_at(page, n, at + 1)
 }
@@ -69,6 +88,14 @@ fn four_of(page: &[u8], k: usize) -> u32
 {
     ((byte_of(page, k) * 256 + byte_of(page, k + 1)) * 256 + byte_of(page, k + 2)) * 256
         + byte_of(page, k + 3)
+}
+
+// The signed number in the four bytes from `at` on of the part of a page from byte `start` on, which has them.
+pub fn number_in(page: &[u8], start: usize, at: usize) -> i32
+    requires { ⌜ start + at + 4 ≤ length (now page) ⌝ }
+    ensures { λ r. ⌜ r ≡ numberAt (drop start (now (page .entry))) at ⌝ }
+{
+    to_signed(four_of(page, start + at))
 }
 
 // The number in the four bytes from `at` on of block n, which the page may not have.
@@ -88,9 +115,10 @@ pub fn number_at(page: &[u8], n: u32, at: u32) -> i32
     requires { ⌜ at < 512 ⌝ }
     ensures { λ r. ⌜ r ≡ numberAt (blockAt (now (page .entry)) n) at ⌝ }
 {
-    let k = 512 * (n as usize) + (at as usize);
-    if k + 4 <= page.len() {
-        return to_signed(four_of(page, k));
+    let start = 512 * (n as usize);
+    let from = at as usize;
+    if start + from + 4 <= page.len() {
+        return number_in(page, start, from);
     }
     to_signed(four(page, n, at))
 }

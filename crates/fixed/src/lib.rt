@@ -9,12 +9,15 @@ mod table;
 mod values;
 
 pub use bytes::byte_at;
+pub use bytes::byte_in;
 pub use bytes::number_at;
+pub use bytes::number_in;
 pub use bytes::of_signed;
 pub use bytes::put_number;
 pub use bytes::put_two;
 pub use bytes::to_signed;
 pub use bytes::two_at;
+pub use bytes::two_in;
 pub use codes::is_device;
 pub use float::float_of;
 pub use limits::is_exponent;

@@ -4,19 +4,30 @@ use mathlib.Core.Bool.{_&&_, cond}
 use mathlib.Core.List.{List}
 use Prim.Native.Nat.{ℕ, _+_, _-_, _*_, _≤_, _<_}
 use native.Mathlib.Omega.{arith}
+use native.Mathlib.Decide.{decLt}
+use lib.ListN.{length, set}
+use lib.Seq.{getD-set-same, getD-set-other}
 use lib.Dec.{eqb, leb}
 use Rattle.fixed.specs.Bytes.{byteAt, twoAt, numberAt}
 use Rattle.fixed.specs.Loops.{zeroBetween}
 use Rattle.fixed.proofs.Scans.{all-same}
 use Rattle.fixed.proofs.Totals.{total-same}
 use Rattle.record.specs.Layout.{namedTo, plain, weighed, checked}
-use Rattle.record.specs.Reading.{kindAt, ownAt, tripleAt, fourNumbersAt, grayAt, rgbAt, labAt, separationAt, bodyBy, bodyAt}
+use Rattle.record.specs.Reading.{kindAt, ownAt, tripleAt, fourNumbersAt, grayAt, rgbAt, labAt, separationAt, bodyBy, bodyAt, SameBytes}
 use Rattle.record.specs.Rules.{wellLaid, nameShown, wellFormed}
 use Rattle.record.specs.declared.types.Body.{Body}
 use Rattle.record.specs.declared.types.Body.the-variants.{Free, CalGray, CalRgb, Lab, Indexed, Separation, Palette}
 use Rattle.record.proofs.Shapes.{name-same}
 
-module _ (b c : List ℕ) (same : (k : ℕ) → k < 512 → byteAt b k ≡ byteAt c k) where
+-- one byte more of a block that is copied byte by byte
+pub copied : (b d : List ℕ) (i x : ℕ) → length d ≡ 512 → i < 512 → x ≡ byteAt b i → ((j : ℕ) → j < i → byteAt d j ≡ byteAt b j) → (j : ℕ) → j < i + 1 → byteAt (set d i x) j ≡ byteAt b j
+copied b d i x long h e before j l = by (decLt j i)
+  where
+    by : Dec (j < i) → byteAt (set d i x) j ≡ byteAt b j
+    by (yes m) = getD-set-other d i j x 0 (λ q. absurd (omega (arith, q, m))) ∙ before j m
+    by (no m) = let q : j ≡ i = omega arith in rw q (getD-set-same d i x 0 (rw long h) ∙ e)
+
+module _ (b c : List ℕ) (same : SameBytes b c) where
   -- numbers
   two-same : (at : ℕ) → at < 511 → twoAt b at ≡ twoAt c at
   two-same at l = rw (same at (omega arith), same (at + 1) (omega arith))

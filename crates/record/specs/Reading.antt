@@ -1,7 +1,8 @@
 -- FORMAT.md, Kinds: what a block b says, by the byte offsets of the table. Every list of bytes says something; specs/Rules.antt has what is refused.
 use mathlib.Core.List.{List, [], _∷_, _++_}
 use mathlib.Core.Bool.{Bool, _&&_, cond}
-use Prim.Native.Nat.{ℕ, _+_, _-_}
+use mathlib.Core.Path.{_≡_}
+use Prim.Native.Nat.{ℕ, _+_, _-_, _<_}
 use lib.ListN.{length, drop, replicate}
 use lib.Dec.{eqb}
 use Rattle.fixed.specs.Bytes.{byteAt, twoAt, numberAt}
@@ -105,3 +106,7 @@ nameIs b name = eqb (byteAt b 7) (length name) && allBetween (λ k. eqb (byteAt 
 -- the record that a block holds
 unfoldable pub recordAt : List ℕ → Record
 recordAt b = record { own = ownAt b; body = bodyAt b; bytes = bytesBy (kindAt b) b }
+
+-- two lists have the same block: a byte past the end of either is 0
+abbrev pub SameBytes : List ℕ → List ℕ → Type 0
+SameBytes b c = (k : ℕ) → k < 512 → byteAt b k ≡ byteAt c k

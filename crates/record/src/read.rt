@@ -1,8 +1,9 @@
 // Reading a record: what stands at the places of block n. Every block says something; what is refused is for `shape` and `rules`.
 ghost use mathlib.Core.Path.{_≡_};
-ghost use Prim.Native.Nat.{_<_, _≤_};
+ghost use Prim.Native.Nat.{_+_, _<_, _≤_};
+ghost use lib.ListN.{length, drop};
 ghost use Rattle.fixed.specs.Bytes.{blockAt, twoAt};
-ghost use Rattle.record.specs.Reading.{kindAt, tripleAt, rangesAt, fourNumbersAt, grayAt, rgbAt, labAt, separationAt, ownAt, bodyAt, runAt, bytesBy, paletteAt, recordAt};
+ghost use Rattle.record.specs.Reading.{kindAt, tripleAt, rangesAt, fourNumbersAt, grayAt, rgbAt, labAt, separationAt, ownAt, bodyAt, runAt, bytesBy, paletteAt, recordAt, SameBytes};
 ghost use Rattle.record.specs.Layout.{room, entriesOf};
 ghost use Rattle.record.specs.Rules.{isPalette};
 use crate::types::Body;
@@ -17,36 +18,39 @@ use crate::types::Record;
 use crate::types::Separation;
 use crate::types::Triple;
 use fixed::byte_at;
-use fixed::number_at;
+use fixed::byte_in;
+use fixed::number_in;
 use fixed::two_at;
+use fixed::two_in;
 
-fn triple_at(page: &[u8], n: u32, at: u32) -> Triple
-    requires { ⌜ at < 500 ⌝ }
-    ensures { λ r. ⌜ r ≡ tripleAt (blockAt (now (page .entry)) n) at ⌝ }
+// These read the part of a page from byte `start` on, where a block stands whole.
+fn triple_in(page: &[u8], start: usize, at: usize) -> Triple
+    requires { ⌜ start + at + 12 ≤ length (now page) ⌝ }
+    ensures { λ r. ⌜ r ≡ tripleAt (drop start (now (page .entry))) at ⌝ }
 {
-    let x = number_at(page, n, at);
-    let y = number_at(page, n, at + 4);
-    let z = number_at(page, n, at + 8);
+    let x = number_in(page, start, at);
+    let y = number_in(page, start, at + 4);
+    let z = number_in(page, start, at + 8);
     Triple { x, y, z }
 }
 
-fn four_at(page: &[u8], n: u32, at: u32) -> Four
-    requires { ⌜ at < 500 ⌝ }
-    ensures { λ r. ⌜ r ≡ fourNumbersAt (blockAt (now (page .entry)) n) at ⌝ }
+fn four_in(page: &[u8], start: usize, at: usize) -> Four
+    requires { ⌜ start + at + 16 ≤ length (now page) ⌝ }
+    ensures { λ r. ⌜ r ≡ fourNumbersAt (drop start (now (page .entry))) at ⌝ }
 {
-    let a = number_at(page, n, at);
-    let b = number_at(page, n, at + 4);
-    let c = number_at(page, n, at + 8);
-    let d = number_at(page, n, at + 12);
+    let a = number_in(page, start, at);
+    let b = number_in(page, start, at + 4);
+    let c = number_in(page, start, at + 8);
+    let d = number_in(page, start, at + 12);
     Four { a, b, c, d }
 }
 
 // The ranges are four numbers.
-fn ranges_at(page: &[u8], n: u32, at: u32) -> Ranges
-    requires { ⌜ at < 500 ⌝ }
-    ensures { λ r. ⌜ r ≡ rangesAt (blockAt (now (page .entry)) n) at ⌝ }
+fn ranges_in(page: &[u8], start: usize, at: usize) -> Ranges
+    requires { ⌜ start + at + 16 ≤ length (now page) ⌝ }
+    ensures { λ r. ⌜ r ≡ rangesAt (drop start (now (page .entry))) at ⌝ }
 {
-    let q = four_at(page, n, at);
+    let q = four_in(page, start, at);
     Ranges {
         amin: q.a,
         amax: q.b,
@@ -55,12 +59,13 @@ fn ranges_at(page: &[u8], n: u32, at: u32) -> Ranges
     }
 }
 
-fn gray_at(page: &[u8], n: u32) -> CalGray
-    ensures { λ r. ⌜ r ≡ grayAt (blockAt (now (page .entry)) n) ⌝ }
+fn gray_in(page: &[u8], start: usize) -> CalGray
+    requires { ⌜ start + 512 ≤ length (now page) ⌝ }
+    ensures { λ r. ⌜ r ≡ grayAt (drop start (now (page .entry))) ⌝ }
 {
-    let white = triple_at(page, n, 4);
-    let black = triple_at(page, n, 16);
-    let gamma = number_at(page, n, 28);
+    let white = triple_in(page, start, 4);
+    let black = triple_in(page, start, 16);
+    let gamma = number_in(page, start, 28);
     CalGray {
         white,
         black,
@@ -68,15 +73,16 @@ fn gray_at(page: &[u8], n: u32) -> CalGray
     }
 }
 
-fn rgb_at(page: &[u8], n: u32) -> CalRgb
-    ensures { λ r. ⌜ r ≡ rgbAt (blockAt (now (page .entry)) n) ⌝ }
+fn rgb_in(page: &[u8], start: usize) -> CalRgb
+    requires { ⌜ start + 512 ≤ length (now page) ⌝ }
+    ensures { λ r. ⌜ r ≡ rgbAt (drop start (now (page .entry))) ⌝ }
 {
-    let white = triple_at(page, n, 4);
-    let black = triple_at(page, n, 16);
-    let gammas = triple_at(page, n, 28);
-    let a = triple_at(page, n, 40);
-    let b = triple_at(page, n, 52);
-    let c = triple_at(page, n, 64);
+    let white = triple_in(page, start, 4);
+    let black = triple_in(page, start, 16);
+    let gammas = triple_in(page, start, 28);
+    let a = triple_in(page, start, 40);
+    let b = triple_in(page, start, 52);
+    let c = triple_in(page, start, 64);
     CalRgb {
         white,
         black,
@@ -87,12 +93,13 @@ fn rgb_at(page: &[u8], n: u32) -> CalRgb
     }
 }
 
-fn lab_at(page: &[u8], n: u32) -> Lab
-    ensures { λ r. ⌜ r ≡ labAt (blockAt (now (page .entry)) n) ⌝ }
+fn lab_in(page: &[u8], start: usize) -> Lab
+    requires { ⌜ start + 512 ≤ length (now page) ⌝ }
+    ensures { λ r. ⌜ r ≡ labAt (drop start (now (page .entry))) ⌝ }
 {
-    let white = triple_at(page, n, 4);
-    let black = triple_at(page, n, 16);
-    let range = ranges_at(page, n, 28);
+    let white = triple_in(page, start, 4);
+    let black = triple_in(page, start, 16);
+    let range = ranges_in(page, start, 28);
     Lab {
         white,
         black,
@@ -100,28 +107,47 @@ fn lab_at(page: &[u8], n: u32) -> Lab
     }
 }
 
-fn indexed_at(page: &[u8], n: u32) -> Body
-    ensures { λ r. ⌜ r ≡ Body.Indexed (twoAt (blockAt (now (page .entry)) n) 4) (twoAt (blockAt (now (page .entry)) n) 6) ⌝ }
+fn indexed_in(page: &[u8], start: usize) -> Body
+    requires { ⌜ start + 512 ≤ length (now page) ⌝ }
+    ensures { λ r. ⌜ r ≡ Body.Indexed (twoAt (drop start (now (page .entry))) 4) (twoAt (drop start (now (page .entry))) 6) ⌝ }
 {
-    let base = two_at(page, n, 4) as u16;
-    let hival = two_at(page, n, 6) as u16;
+    let base = two_in(page, start, 4) as u16;
+    let hival = two_in(page, start, 6) as u16;
     Body::Indexed { base, hival }
 }
 
-fn separation_at(page: &[u8], n: u32) -> Separation
-    ensures { λ r. ⌜ r ≡ separationAt (blockAt (now (page .entry)) n) ⌝ }
+fn separation_in(page: &[u8], start: usize) -> Separation
+    requires { ⌜ start + 512 ≤ length (now page) ⌝ }
+    ensures { λ r. ⌜ r ≡ separationAt (drop start (now (page .entry))) ⌝ }
 {
-    let alternate = two_at(page, n, 4) as u16;
-    let exponent = byte_at(page, n, 6) as u8;
-    let name_len = byte_at(page, n, 7) as u8;
-    let c0 = four_at(page, n, 136);
-    let c1 = four_at(page, n, 152);
+    let alternate = two_in(page, start, 4) as u16;
+    let exponent = byte_in(page, start, 6) as u8;
+    let name_len = byte_in(page, start, 7) as u8;
+    let c0 = four_in(page, start, 136);
+    let c1 = four_in(page, start, 152);
     Separation {
         alternate,
         exponent,
         name_len,
         c0,
         c1,
+    }
+}
+
+// The body, read as its kind says; an unknown kind is read as free.
+fn body_in(page: &[u8], start: usize) -> Body
+    requires { ⌜ start + 512 ≤ length (now page) ⌝ }
+    ensures { λ r. ⌜ r ≡ bodyAt (drop start (now (page .entry))) ⌝ }
+{
+    let kind = byte_in(page, start, 0);
+    match kind {
+        1 => Body::CalGray(gray_in(page, start)),
+        2 => Body::CalRgb(rgb_in(page, start)),
+        3 => Body::Lab(lab_in(page, start)),
+        4 => indexed_in(page, start),
+        5 => Body::Separation(separation_in(page, start)),
+        6 => Body::Palette,
+        _ => Body::Free,
     }
 }
 
@@ -162,20 +188,29 @@ pub fn own_at(page: &[u8], n: u32) -> u16
     two_at(page, n, 2) as u16
 }
 
-// The body of block n, read as its kind says; an unknown kind is read as free.
+// Block n with zeros in the place of the bytes that the page does not have.
+fn block_of(page: &[u8], n: u32) -> [u8; 512]
+    ensures { λ r. ⌜ SameBytes r (blockAt (now (page .entry)) n) ⌝ }
+{
+    let mut block = [0u8; 512];
+    let mut i: u32 = 0;
+    while i < 512 {
+        block[i as usize] = byte_at(page, n, i) as u8;
+        i += 1;
+    }
+    block
+}
+
+// The body of block n.
 pub fn body_at(page: &[u8], n: u32) -> Body
     ensures { λ r. ⌜ r ≡ bodyAt (blockAt (now (page .entry)) n) ⌝ }
 {
-    let kind = byte_at(page, n, 0);
-    match kind {
-        1 => Body::CalGray(gray_at(page, n)),
-        2 => Body::CalRgb(rgb_at(page, n)),
-        3 => Body::Lab(lab_at(page, n)),
-        4 => indexed_at(page, n),
-        5 => Body::Separation(separation_at(page, n)),
-        6 => Body::Palette,
-        _ => Body::Free,
+    let start = 512 * (n as usize);
+    if start + 512 <= page.len() {
+        return body_in(page, start);
     }
+    let block = block_of(page, n);
+    body_in(&block, 0)
 }
 
 fn run_at(page: &[u8], n: u32, at: u32, count: u32) -> [u8; 504]
