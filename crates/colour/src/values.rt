@@ -10,10 +10,9 @@ ghost use Rattle.space.specs.Levels.{spaceIn, Ends, Ranged};
 ghost use Rattle.colour.specs.Colours.{limitedTo};
 use fixed::Colour;
 use fixed::VALUES;
-use fixed::is_index_outside;
+use fixed::index_of;
 use fixed::is_outside;
 use fixed::limit;
-use fixed::round_index;
 use fixed::tint_power;
 use fixed::tint_value;
 use fixed::unit_part;
@@ -76,11 +75,11 @@ pub fn pick_row(page: &[u8], n: u16, hival: u16, s: Level, c: Colour) -> Colour
     let v = c.values;
     let x = v[0];
     let m = count(s);
-    let i = round_index(x, hival as u32);
-    let u = fill_row(page, n, m, lows(s), highs(s), i * m, v);
+    let index = index_of(x, hival as u32);
+    let u = fill_row(page, n, m, lows(s), highs(s), index.row * m, v);
     Colour {
         values: u,
-        moved: moved | is_index_outside(x, hival as u32),
+        moved: moved | index.outside,
     }
 }
 

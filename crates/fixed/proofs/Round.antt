@@ -1,29 +1,35 @@
--- The nearest in 0..h to a number that is n − k, by where n lies.
-use mathlib.Core.Path.{_≡_, ap, _∙_}
+-- A number that is n − k among the rows 0..h: the nearest of them, and whether it lies outside, by where n lies.
+use mathlib.Core.Path.{_≡_, sym, ap, _∙_}
+use mathlib.Core.Bool.{Bool, true, false}
 use Prim.Native.Nat.{ℕ, _+_, _*_, _-_, _/_, _<_, _≤_}
 use native.Mathlib.Nat.{mul-div-mul-left}
-use native.Mathlib.Decide.{decLt}
 use native.Mathlib.Omega.{arith}
 use lib.IntN.{ℤ, pos}
-use Rattle.fixed.specs.Numbers.{limited}
+use Rattle.fixed.specs.Numbers.{limited, outside}
 use Rattle.fixed.proofs.Diff.{Diff, of-pos, lt-yes, lt-no, pos-at}
 
 module _ (h : ℕ) {z : ℤ} {n k : ℕ} (e : Diff z n k) where
-  pub mid : k ≤ n → n ≤ k + h → limited (pos 0) (pos h) z ≡ pos (n - k)
-  unfolding limited
-  mid p q = simp (lt-no e (of-pos 0) (omega arith), lt-no (of-pos h) e (omega arith)) (pos-at e p)
+  -- r is the row, and t whether the number lies outside
+  abbrev Picks : ℕ → Bool → Type 0
+  Picks r t = (pos r ≡ limited (pos 0) (pos h) z) × (t ≡ outside (pos 0) (pos h) z)
 
-  pub high : k + h < n → limited (pos 0) (pos h) z ≡ pos h
-  unfolding limited
-  high q = simp (lt-no e (of-pos 0) (omega arith), lt-yes (of-pos h) e (omega arith))
+  pub mid : k ≤ n → n ≤ k + h → Picks (n - k) false
+  unfolding limited outside
+  mid p q =
+      let low = lt-no e (of-pos 0) (omega arith) in
+      let high = lt-no (of-pos h) e (omega arith) in
+      (simp (low, high) (sym (pos-at e p)), simp (low, high))
 
-  pub low : n ≤ k → limited (pos 0) (pos h) z ≡ pos 0
-  unfolding limited
-  low p = by-cases (decLt n k)
-    where
-      by-cases : Dec (n < k) → limited (pos 0) (pos h) z ≡ pos 0
-      by-cases (yes q) = simp (lt-yes e (of-pos 0) (omega arith))
-      by-cases (no q) = mid (omega arith) (omega arith) ∙ ap pos (omega arith)
+  pub high : k + h < n → Picks h true
+  unfolding limited outside
+  high q =
+      let low = lt-no e (of-pos 0) (omega arith) in
+      let high = lt-yes (of-pos h) e (omega arith) in
+      (simp (low, high), simp (low, high))
+
+  pub low : n < k → Picks 0 true
+  unfolding limited outside
+  low p = let low = lt-yes e (of-pos 0) (omega arith) in (simp low, simp low)
 
 -- half of a half: the code adds 500000 and divides by 1000000
 pub halves : (m : ℕ) → (2 * m + 1000000) / 2000000 ≡ (m + 500000) / 1000000

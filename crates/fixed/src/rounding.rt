@@ -78,24 +78,35 @@ pub fn tint_value(c0: i32, c1: i32, q: u32) -> i32
     part_way(c0, c1, q as u64, 1000000)
 }
 
-// Whether v millionths, rounded half up to a whole number, lie outside 0..hival. The number is raised by 2148, so that it is never negative.
-pub fn is_index_outside(v: i32, hival: u32) -> bool
-    ensures { λ r. ⌜ r ≡ indexOutside v hival ⌝ }
-{
-    let n = (raised(v) + 1016352) / 1000000;
-    (n < 2148) | (hival as u64 + 2148 < n)
+// Where an index lies among the rows 0..hival.
+pub struct Index {
+    // The row that it picks: the nearest of them.
+    pub row: u32,
+    // Whether it lay outside, so that it had to be moved to that row. Rounding alone moves nothing.
+    pub outside: bool,
 }
 
-// v millionths to the nearest whole number, up at a half, and then the nearest to that in 0..hival.
-pub fn round_index(v: i32, hival: u32) -> u32
-    ensures { λ r. ⌜ pos r ≡ roundIndex v hival ⌝ }
+// v millionths to the nearest whole number, up at a half, among the rows 0..hival. The number is raised by 2148, so that it is never negative.
+pub fn index_of(v: i32, hival: u32) -> Index
+    ensures { λ r. ⌜ (pos (r .row) ≡ roundIndex v hival) × (r .outside ≡ indexOutside v hival) ⌝ }
 {
-    if v < 500000 {
-        return 0;
+    let u = raised(v);
+    let n = (u + 1016352) / 1000000;
+    if n < 2148 {
+        return Index {
+            row: 0,
+            outside: true,
+        };
     }
-    let n = (v as u32 + 500000) / 1000000;
-    if hival < n {
-        return hival;
+    let row = (n - 2148) as u32;
+    if hival < row {
+        return Index {
+            row: hival,
+            outside: true,
+        };
     }
-    n
+    Index {
+        row,
+        outside: false,
+    }
 }

@@ -1,11 +1,11 @@
 // Cases of the crate `fixed`.
 use fixed::float_of;
+use fixed::index_of;
 use fixed::limit;
 use fixed::number_at;
 use fixed::of_signed;
 use fixed::palette_value;
 use fixed::put_number;
-use fixed::round_index;
 use fixed::tint_power;
 use fixed::tint_value;
 use fixed::two_at;
@@ -19,6 +19,11 @@ fn palette_case(b: u32, lo: i32, hi: i32) {
     if b <= 255 {
         say_number(palette_value(b, lo, hi));
     }
+}
+
+fn index_case(v: i32, hival: u32) {
+    let index = index_of(v, hival);
+    say_size(index.row);
 }
 
 fn power_case(x: u32, exponent: u32) {
@@ -43,7 +48,7 @@ fn bytes_case(v: i32) {
 pub fn number_case(op: u32, v: [i32; 24], bytes: &[u8]) {
     match op {
         1 => say_number(limit(v[1], v[2], v[3])),
-        2 => say_size(round_index(v[1], of_signed(v[2]))),
+        2 => index_case(v[1], of_signed(v[2])),
         3 => palette_case(of_signed(v[1]), v[2], v[3]),
         4 => power_case(of_signed(v[1]), of_signed(v[2])),
         5 => tint_case(v[1], v[2], of_signed(v[3])),
