@@ -1,10 +1,13 @@
 -- FORMAT.md, Numbers, and the whole-number parts of Colour steps. A number is a count of millionths.
+use mathlib.Core.Path.{_≡_}
 use mathlib.Core.Bool.{Bool, false, cond, _&&_, _||_}
-use Prim.Native.Nat.{ℕ, zero, suc, _+_, _*_, _/_, _%_}
+use mathlib.Core.List.{List}
+use Prim.Native.Nat.{ℕ, zero, suc, _+_, _*_, _/_, _%_, _<_}
 use lib.IntN.{ℤ, pos, negsuc, _+ℤ_, _-ℤ_, _*ℤ_}
 use lib.Ieee.{Float, binary64, div, ofInt, ofBits}
 use lib.Signed.{ltZ}
 use lib.Dec.{eqb, leb}
+use lib.ListN.{length, getD}
 
 -- 1000000.0, by its bits
 abbrev pub million : Float
@@ -42,6 +45,10 @@ partWay d q x y = halfUp (pos d *ℤ x +ℤ pos q *ℤ (y -ℤ x)) d
 -- a palette byte v in a range lo..hi: the whole number nearest to lo + v (hi - lo) / 255. None lies midway, since 255 is odd: specs/Nearest.antt states it
 unfoldable pub paletteValue : ℕ → ℤ → ℤ → ℤ
 paletteValue v lo hi = lo +ℤ floorDiv (pos v *ℤ (hi -ℤ lo) +ℤ pos 127) 255
+
+-- a table of the values over 0..1 of the first bytes, as many as it has entries
+unfoldable pub OverOne : List ℕ → Type 0
+OverOne t = (k : ℕ) → k < length t → pos (getD t k 0) ≡ paletteValue k (pos 0) (pos 1000000)
 
 -- an index: v rounded half up to an integer, then taken to the nearest in 0..hival
 abbrev pub roundIndex : ℤ → ℕ → ℤ

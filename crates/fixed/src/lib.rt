@@ -27,6 +27,7 @@ pub use limits::limit;
 pub use limits::unit_part;
 pub use rounding::Index;
 pub use rounding::index_of;
+pub use rounding::over_one;
 pub use rounding::palette_value;
 pub use rounding::part_way;
 pub use rounding::tint_power;

@@ -4,7 +4,7 @@
 ghost use mathlib.Core.Path.{_≡_};
 ghost use lib.IntN.{pos, subℕ};
 ghost use Prim.Native.Nat.{_<_, _≤_, _^_};
-ghost use Rattle.fixed.specs.Numbers.{partWay, paletteValue, tintPower, tintValue, roundIndex, indexOutside};
+ghost use Rattle.fixed.specs.Numbers.{partWay, paletteValue, OverOne, tintPower, tintValue, roundIndex, indexOutside};
 use crate::table::OVER_ONE;
 
 // v + 2^31.
@@ -33,22 +33,24 @@ pub fn part_way(x: i32, y: i32, q: u64, d: u64) -> i32
     lowered((2 * n + d) / (2 * d))
 }
 
-// The value of a palette byte b in the range 0..1, without a division.
-fn unit_value(b: u32) -> i32
-    requires { ⌜ b ≤ 255 ⌝ }
-    ensures { λ r. ⌜ r ≡ paletteValue b (pos 0) (pos 1000000) ⌝ }
+// The table of the values over 0..1 of all palette bytes, in millionths. It is made anew by each call: make it once for a palette, and lend it.
+pub fn over_one() -> [u32; 256]
+    ensures { λ r. ⌜ OverOne r ⌝ }
 {
-    OVER_ONE[b as usize] as i32
+    OVER_ONE
 }
 
-// The value of a palette byte b in the range lo..hi: nearly every palette is over 0..1.
-pub fn palette_value(b: u32, lo: i32, hi: i32) -> i32
-    requires { ⌜ b ≤ 255 ⌝ }
+// The value of a palette byte b in the range lo..hi: nearly every palette is over 0..1. `table` has the values over that range, of all bytes or of none, and
+// spares the division.
+pub fn palette_value(table: &[u32], b: u32, lo: i32, hi: i32) -> i32
+    requires { ⌜ (b ≤ 255) × OverOne (now table) ⌝ }
     ensures { λ r. ⌜ r ≡ paletteValue b lo hi ⌝ }
 {
-    if lo == 0 {
-        if hi == 1000000 {
-            return unit_value(b);
+    if (b as usize) < table.len() {
+        if lo == 0 {
+            if hi == 1000000 {
+                return table[b as usize] as i32;
+            }
         }
     }
     part_way(lo, hi, b as u64, 255)

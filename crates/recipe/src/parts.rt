@@ -3,6 +3,7 @@ ghost use mathlib.Core.Path.{_≡_};
 ghost use Prim.Native.Nat.{_+_, _*_, _<_, _≤_};
 ghost use lib.ListN.{length};
 ghost use lib.Seq.{sets};
+ghost use Rattle.fixed.specs.Numbers.{OverOne};
 ghost use Rattle.fixed.specs.Values.{places, value, listed};
 ghost use Rattle.space.specs.Spaces.{Space};
 ghost use Rattle.space.specs.Pages.{entries, entryOf};
@@ -15,6 +16,7 @@ use crate::stores::put4;
 use crate::stores::word_of;
 use cie::Closing;
 use fixed::VALUES;
+use fixed::over_one;
 use record::Ranges;
 use record::Separation;
 use record::entries_of;
@@ -27,8 +29,36 @@ use space::lows;
 use space::plain_highs;
 use space::plain_lows;
 
-// The first `size` entries of the table of the Indexed block n, over a space of m components, whose ranges are from lo to hi.
+// The first `size` entries of the table of the Indexed block n, over a space of m components, whose ranges are from lo to hi; `table` has the values over 0..1.
 fn put_table(
+    page: &[u8],
+    table: &[u32],
+    n: u16,
+    m: u32,
+    lo: [i32; VALUES],
+    hi: [i32; VALUES],
+    size: u32,
+    words: &mut [i32],
+    at: usize,
+)
+    requires { ⌜ (size ≤ entries) × (at + size ≤ length (now words)) × (0 < m) × (m ≤ places) × OverOne (now table) ⌝ }
+    ensures { λ _. ⌜ ((s : Space) → Ranged s m lo hi → now (words .exit) ≡ sets (now (words .entry)) at (listed (entryOf (now (page .entry)) n s) size)) ⌝ }
+{
+    let mut j: u32 = 0;
+    let mut k: u32 = 0;
+    while j < size {
+        let x = entry(page, table, n, k as usize, lo, hi, j);
+        words[at + (j as usize)] = x;
+        j += 1;
+        k += 1;
+        if k == m {
+            k = 0;
+        }
+    }
+}
+
+// The same. The values over 0..1 are made where the first range ends at 1: a Lab's does not, and has no use for them.
+fn put_rows(
     page: &[u8],
     n: u16,
     m: u32,
@@ -41,12 +71,13 @@ fn put_table(
     requires { ⌜ (size ≤ entries) × (at + size ≤ length (now words)) × (0 < m) × (m ≤ places) ⌝ }
     ensures { λ _. ⌜ ((s : Space) → Ranged s m lo hi → now (words .exit) ≡ sets (now (words .entry)) at (listed (entryOf (now (page .entry)) n s) size)) ⌝ }
 {
-    let mut j: u32 = 0;
-    while j < size {
-        let x = entry(page, n, m, lo, hi, j);
-        words[at + (j as usize)] = x;
-        j += 1;
+    if hi[0] == 1000000 {
+        let table = over_one();
+        put_table(page, &table, n, m, lo, hi, size, words, at);
+        return;
     }
+    let none = [0u32; 1];
+    put_table(page, &none[..0], n, m, lo, hi, size, words, at);
 }
 
 // The first m entries of C0 or C1.
@@ -99,7 +130,7 @@ pub fn put_row(page: &[u8], n: u16, hival: u16, s: Level, words: &mut [i32], at:
         return at + 3;
     }
     let size = m * (h + 1);
-    put_table(page, n, m, lows(s), highs(s), size, words, at + 3);
+    put_rows(page, n, m, lows(s), highs(s), size, words, at + 3);
     at + 3 + (size as usize)
 }
 

@@ -4,6 +4,7 @@ use fixed::index_of;
 use fixed::limit;
 use fixed::number_at;
 use fixed::of_signed;
+use fixed::over_one;
 use fixed::palette_value;
 use fixed::put_number;
 use fixed::tint_power;
@@ -17,7 +18,8 @@ use text::say_size;
 
 fn palette_case(b: u32, lo: i32, hi: i32) {
     if b <= 255 {
-        say_number(palette_value(b, lo, hi));
+        let table = over_one();
+        say_number(palette_value(&table, b, lo, hi));
     }
 }
 

@@ -2,9 +2,7 @@
 use mathlib.Core.Path.{_≡_, refl, ap, sym, _∙_}
 use mathlib.Core.Bool.{true, false, true≢false}
 use mathlib.Core.List.{List, [], _∷_}
-use Prim.Native.Nat.{ℕ, _%_, _≤_, _<_}
-use native.Mathlib.Nat.{mod-lt}
-use native.Mathlib.Omega.{arith}
+use Prim.Native.Nat.{ℕ, _%_, _<_}
 use lib.IntN.{ℤ, pos}
 use Rattle.fixed.specs.Numbers.{paletteValue}
 use Rattle.fixed.specs.Values.{places, value, listed}
@@ -68,10 +66,10 @@ module _ {s : Space} {lo hi : List ℤ} (r : Ends s lo hi) (k : ℕ) (l : k < pl
   pub high-at : value hi k ≡ highOf s k
   high-at = ap (λ (x : List ℤ). value x k) (r .high) ∙ listed-value (highOf s) places k l
 
--- an entry in the code's own terms: b its palette byte, x and y the ends of its component's range
-pub entry-is : (page : List ℕ) (n j : ℕ) {s : Space} {m : ℕ} {lo hi : List ℤ} → Ranged s m lo hi → 0 < m → m ≤ places → (b : ℕ) (x y : ℤ) → b ≡ paletteByte page n j
-    → x ≡ value lo (j % m) → y ≡ value hi (j % m) → paletteValue b x y ≡ entryOf page n s j
+-- an entry in the code's own terms: b its palette byte, k its component, x and y the ends of that one's range
+pub entry-is : (page : List ℕ) (n j : ℕ) {s : Space} {m : ℕ} {lo hi : List ℤ} → Ranged s m lo hi → (k : ℕ) → k < places → k ≡ j % m → (b : ℕ) (x y : ℤ) → b ≡ paletteByte page n j
+    → x ≡ value lo k → y ≡ value hi k → paletteValue b x y ≡ entryOf page n s j
 unfolding entryOf
-entry-is page n j {s} {m} r some few b x y eb ex ey =
-    let l : j % m < places = omega (arith, mod-lt j some) in
-    rw (eb, ex ∙ low-at (r .ends) (j % m) l, ey ∙ high-at (r .ends) (j % m) l, r .count)
+entry-is page n j {s} r k few ek b x y eb ex ey =
+    let at : k ≡ j % countOf s = ek ∙ ap (λ (m : ℕ). j % m) (r .count) in
+    rw (eb, ex ∙ low-at (r .ends) k few, ey ∙ high-at (r .ends) k few, at)

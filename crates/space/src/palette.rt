@@ -1,6 +1,7 @@
 // The palette of an Indexed block.
 ghost use mathlib.Core.Path.{_≡_};
-ghost use Prim.Native.Nat.{_<_, _≤_};
+ghost use Prim.Native.Nat.{ℕ, _<_, _≤_, _%_};
+ghost use Rattle.fixed.specs.Numbers.{OverOne};
 ghost use Rattle.fixed.specs.Values.{places};
 ghost use Rattle.space.specs.Numbers.{paletteByte};
 ghost use Rattle.space.specs.Spaces.{Space};
@@ -20,11 +21,18 @@ fn palette_byte(page: &[u8], n: u16, j: u32) -> u32
     palette_at(page, n as u32 + 1 + j / ROOM, j % ROOM)
 }
 
-// Entry j of the table of the Indexed block n over a space of m components, whose ranges are from lo to hi.
-pub fn entry(page: &[u8], n: u16, m: u32, lo: [i32; VALUES], hi: [i32; VALUES], j: u32) -> i32
-    requires { ⌜ (j ≤ entries) × (0 < m) × (m ≤ places) ⌝ }
-    ensures { λ r. ⌜ ((s : Space) → Ranged s m lo hi → r ≡ entryOf (now (page .entry)) n s j) ⌝ }
+// Entry j of the table of the Indexed block n, which is of component k of a space whose ranges are from lo to hi; `table` has the values over 0..1.
+pub fn entry(
+    page: &[u8],
+    table: &[u32],
+    n: u16,
+    k: usize,
+    lo: [i32; VALUES],
+    hi: [i32; VALUES],
+    j: u32,
+) -> i32
+    requires { ⌜ (j ≤ entries) × (k < places) × OverOne (now table) ⌝ }
+    ensures { λ r. ⌜ ((s : Space) (m : ℕ) → Ranged s m lo hi → k ≡ j % m → r ≡ entryOf (now (page .entry)) n s j) ⌝ }
 {
-    let k = (j % m) as usize;
-    palette_value(palette_byte(page, n, j), lo[k], hi[k])
+    palette_value(table, palette_byte(page, n, j), lo[k], hi[k])
 }

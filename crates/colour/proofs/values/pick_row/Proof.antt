@@ -1,7 +1,6 @@
 -- The row that value 0 picks, as a row of the table; the flag by the rounded index.
 use mathlib.Core.Path.{_∙_}
 use Prim.Native.Nat.{_+_, _*_, _≤_}
-use native.Mathlib.Omega.{arith}
 use mir.Syntax.{w32}
 use mir.Val.{toZ, ofZ}
 use Rattle.fixed.specs.Values.{value}
@@ -38,15 +37,12 @@ row-within c =
     let i = c .index-of in
     few-rows (i .result .row) (after-count .count .result) (a .hival) (index-le _ _ (toZ w32 (ofZ w32 (value (a .c .values) 0))) (i .ensures .0)) (after-count .count .ensures .1) (search needs)
 
-mul-fill-row : tie.Need-mul-fill-row
-mul-fill-row c = omega (arith, row-within (c .before .before .before))
-
-fill-row-requires : tie.Need-fill-row-requires
-fill-row-requires c κs = let after-index-of = c .before .before .before in (row-within after-index-of, after-index-of .before .count .ensures .1)
+row-of-requires : tie.Need-row-of-requires
+row-of-requires c κs = let after-index-of = c .before .before in (row-within after-index-of, after-index-of .before .count .ensures .1)
 
 returns : tie.Need-returns
 returns c =
-    let after-highs = c .before .before .before in
+    let after-highs = c .before .before in
     let after-lows = after-highs .before in
     let after-index-of = after-lows .before in
     let after-count = after-index-of .before in
@@ -58,7 +54,7 @@ returns c =
     let i = after-index-of .index-of in
     let x = signed-within (value (a .c .values) 0) (after-x .x .given) in
     row-made (a .c) _ _ _ _
-    (c .before .fill-row .ensures s (record { count = m .ensures .0 _; ends = record { low = after-lows .lows .ensures _; high = after-highs .highs .ensures _ } }) ∙
+    (c .before .row-of .ensures s (record { count = m .ensures .0 _; ends = record { low = after-lows .lows .ensures _; high = after-highs .highs .ensures _ } }) ∙
     row-picked _ _ _ s (a .c .values) (m .result) _ (toZ w32 (ofZ w32 (value (a .c .values) 0))) (m .ensures .0 _) x (i .ensures .0))
     (i .ensures .1) x
 
@@ -71,6 +67,5 @@ pick-row-spec =
     index-of-requires
     lows-requires
     highs-requires
-    mul-fill-row
-    fill-row-requires
+    row-of-requires
     returns)

@@ -54,11 +54,11 @@ lows-requires c κs = search needs
 highs-requires : tie.Need-highs-requires
 highs-requires c κs = search needs
 
-add-put-table : tie.Need-add-put-table
-add-put-table c = search needs
+add-put-rows : tie.Need-add-put-rows
+add-put-rows c = search needs
 
-put-table-requires : tie.Need-put-table-requires
-put-table-requires c κs =
+put-rows-requires : tie.Need-put-rows-requires
+put-rows-requires c κs =
     let after-if1 = c .before .before .before in
     let after-put3 = after-if1 .before .before in
     let after-count = after-put3 .before .before .before .before in
@@ -100,7 +100,7 @@ returns-2 c =
     let after-count = after-word-of .before .before in
     let entry = after-count .before .before in
     let s = spaceIn (entry .args .page .now) (entry .args .s) in
-    row-set (entry .args .page .now) (entry .args .n) (entry .args .hival) (after-count .count .result) (spaceIn (entry .args .page .now) (entry .args .s)) (after-count .count .ensures .0 _) _ _ _ _ _ (signed-is _ (after-word-of .word-of .ok) (after-word-of .word-of .ensures)) (signed-is _ (after-word-of2 .word-of2 .ok) (after-word-of2 .word-of2 .ensures)) (after-put3 .put3 .ensures) _ (c .before .put-table .ensures s (record { count = after-count .count .ensures .0 _; ends = record { low = after-lows .lows .ensures _; high = after-highs .highs .ensures _ } }))
+    row-set (entry .args .page .now) (entry .args .n) (entry .args .hival) (after-count .count .result) (spaceIn (entry .args .page .now) (entry .args .s)) (after-count .count .ensures .0 _) _ _ _ _ _ (signed-is _ (after-word-of .word-of .ok) (after-word-of .word-of .ensures)) (signed-is _ (after-word-of2 .word-of2 .ok) (after-word-of2 .word-of2 .ensures)) (after-put3 .put3 .ensures) _ (c .before .put-rows .ensures s (record { count = after-count .count .ensures .0 _; ends = record { low = after-lows .lows .ensures _; high = after-highs .highs .ensures _ } }))
 
 pub put-row-spec : {M : Type 1} → statement M
 put-row-spec =
@@ -117,8 +117,8 @@ put-row-spec =
     mul-size
     lows-requires
     highs-requires
-    add-put-table
-    put-table-requires
+    add-put-rows
+    put-rows-requires
     add-result-2
     cast-result
     add-result-3
