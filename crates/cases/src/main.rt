@@ -11,9 +11,12 @@ mod run;
 // A program ends: so many lines are read at the most.
 const LINES: usize = 100000;
 
+// The most bytes of a line, and of a case: those of two pages of the most blocks.
+const BYTES: usize = 2 * 512 * (fixed::BLOCKS as usize);
+
 fn main() {
-    let mut read = io::large_buffer();
-    let mut room = io::large_buffer();
+    let mut read = [0u8; BYTES];
+    let mut room = [0u8; BYTES];
     let mut k: usize = 0;
     while k < LINES {
         let n = text::line_in(&mut read);

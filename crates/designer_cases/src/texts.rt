@@ -8,7 +8,7 @@ use text::say_dotted;
 use text::say_size;
 
 // The most room that a case lends: twice what the most blocks need.
-const ROOM: usize = 65536;
+const ROOM: usize = 2 * designer::BLOCK_BYTES;
 
 // How many of the bytes that are left the next part has: all where parts have no size.
 fn part_size(left: usize, size: usize) -> usize

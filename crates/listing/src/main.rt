@@ -6,9 +6,11 @@
 use libc::STDIN_FILENO;
 use libc::STDOUT_FILENO;
 
+// A byte more than the longest page, so that a longer input is refused and not cut.
+const READ: usize = 512 * (fixed::BLOCKS as usize) + 1;
+
 fn main() {
-    // more room than the longest page, so that a longer input is refused and not cut
-    let mut read = io::large_buffer();
+    let mut read = [0u8; READ];
     let n = io::read_full(STDIN_FILENO, &mut read);
     // room for the longest listing, which has a line for each of the most blocks
     let mut text = [0u8; lines::LONGEST];

@@ -50,7 +50,7 @@ module _ (page : List ℕ) (ok : validated page ≡ accepted) where
       P : Outcome → Type 0
       P x = x ≡ accepted → (wellSized (length page) ≡ true) × (passes page (length page / 512) ≡ accepted)
 
-  -- its length is 512 x (1..64)
+  -- its length is 512 x (1..blocks)
   pub well-sized : wellSized (length page) ≡ true
   well-sized = both-pass .0
 

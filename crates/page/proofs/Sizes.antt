@@ -15,7 +15,7 @@ module _ (n : ℕ) (h : wellSized n ≡ true) where
   unfolding wellSized
   sized-whole = let e : n % 512 ≡ 0 = eqb-true (n % 512) 0 (and-left _ _ h) in omega arith
 
-  -- there are 1 to 64 blocks
+  -- there are 1 to `blocks` blocks
   pub sized-some : 1 ≤ n / 512
   unfolding wellSized
   sized-some = leb-true 1 (n / 512) (and-left _ _ (and-right (eqb (n % 512) 0) _ h))

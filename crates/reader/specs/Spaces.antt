@@ -46,8 +46,8 @@ pub record Parser : Type 0 where
 abbrev pub with : Want → ℕ → Entry → List ℤ → Inner → List Frame → Made → Parser
 with w k e v i f m = record { want = w; kind = k; entry = e; values = v; inner = i; frames = f; made = m }
 
--- ---- open spaces, the innermost first. Nesting has no bound in a text; but only the innermost and the 64 around it are kept: before any other is met
--- again 64 blocks are made, and the closing bracket after them is 15.
+-- ---- open spaces, the innermost first. Nesting has no bound in a text; but only the innermost and the `blocks` around it are kept: before any other is met
+-- again `blocks` blocks are made, and the closing bracket after them is 15.
 
 unfoldable pub opened : ℕ → List Frame → List Frame
 opened at fs = take (blocks + 1) (record { start = at; name = [] } ∷ fs)

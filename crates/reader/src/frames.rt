@@ -1,4 +1,4 @@
-// The open spaces, in a ring of 65 places: in marks the bracket of each, in names the length of a name and its bytes.
+// The open spaces, in a ring of `RING` places: in marks the bracket of each, in names the length of a name and its bytes.
 ghost use mathlib.Core.Path.{_≡_};
 ghost use mathlib.Core.Bool.{cond};
 ghost use mathlib.Core.List.{List};

@@ -93,7 +93,7 @@ module _ (room : ℕ) (e : Entry) (v : List ℤ) (i : Inner) (m : Made) (w : Wor
 
   opened-all : (fs : List Frame) → length fs ≤ blocks → opened k fs ≡ record { start = k; name = [] } ∷ fs
   unfolding opened
-  opened-all fs h = ap (λ (l : List Frame). record { start = k; name = [] } ∷ l) (take-all 64 fs h)
+  opened-all fs h = ap (λ (l : List Frame). record { start = k; name = [] } ∷ l) (take-all blocks fs h)
 
   -- `[`
   pub open-read : (x : Level) → length (framesOf x) ≤ blocks

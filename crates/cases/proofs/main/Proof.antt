@@ -2,23 +2,18 @@
 use mathlib.Core.Path.{sym}
 use lib.Seq.{length-take-le}
 use mathlib.Core.Path.{_≡_}
-use Prim.Native.Nat.{_-_}
+use Prim.Native.Nat.{_*_, _-_}
 use lib.ListN.{length}
+use Rattle.fixed.specs.Bytes.{blocks}
 use borrow.Author.Needs.{needs}
 use Rattle.cases.proofs.main.Statement.{statement}
 use Rattle.cases.proofs.main.Tie as tie
 
 abbrev Inv-loop : tie.InvT-loop
-Inv-loop read₀ room₀ k₀ read room k = (length read ≡ 65536) × (length room ≡ 65536)
+Inv-loop read₀ room₀ k₀ read room k = (length read ≡ 1024 * blocks) × (length room ≡ 1024 * blocks)
 
 abbrev μ-loop : tie.MeasureT-loop
 μ-loop read₀ room₀ k₀ read room k = 100000 - k
-
-large-buffer-requires : tie.Need-large-buffer-requires Inv-loop μ-loop
-large-buffer-requires c κs = search needs
-
-large-buffer-requires-2 : tie.Need-large-buffer-requires-2 Inv-loop μ-loop
-large-buffer-requires-2 c κs = search needs
 
 loop-holds : tie.Need-loop-holds Inv-loop μ-loop
 loop-holds c = search needs
@@ -62,8 +57,6 @@ main-spec =
     (tie.spec
     Inv-loop
     μ-loop
-    large-buffer-requires
-    large-buffer-requires-2
     loop-holds
     slice-aggregate-line-in
     line-in-requires

@@ -5,14 +5,14 @@ use mathlib.Core.Path.{_≡_, refl, ap, _∙_}
 use native.Mathlib.Omega.{arith}
 use lib.Seq.{sets, length-take-le}
 use denote.Ref.{now}
-use Rattle.reader.specs.Kept.{framesAt}
+use Rattle.reader.specs.Kept.{ring, framesAt}
 use Rattle.reader.proofs.Rings.{name-turn, name-put}
 use borrow.Author.Needs.{needs}
 use Rattle.reader.proofs.frames.name_slot.Statement.{statement}
 use Rattle.reader.proofs.frames.name_slot.Tie as tie
 
 abbrev Inv-loop : tie.InvT-loop
-Inv-loop names₀ x word n at m i₀ names i = (i ≤ m) × ((length names ≡ 8320) × (names ≡ sets names₀ (at + 1) (take i word)))
+Inv-loop names₀ x word n at m i₀ names i = (i ≤ m) × ((length names ≡ 128 * ring) × (names ≡ sets names₀ (at + 1) (take i word)))
 
 abbrev μ-loop : tie.MeasureT-loop
 μ-loop names₀ x word n at m i₀ names i = m - i
