@@ -1,8 +1,8 @@
 /* Sktelbaan: colour-space records of PDF (ISO 32000-1, clause 8.6).
  *
- * A page is 1 to 64 blocks of 512 bytes, each with the record of a colour space, a part of a palette, or nothing. Here are all operations: validating a page,
- * evaluating a colour of one of its spaces, writing the recipe of a space, running a recipe, asking for an ink by its name, writing and reading a block by
- * itself, reading a designer's text into a page. Link libsktelbaan.a.
+ * A page is 1 to SKTELBAAN_MOST_BLOCKS blocks of 512 bytes, each with the record of a colour space, a part of a palette, or nothing. Here are all operations:
+ * validating a page, evaluating a colour of one of its spaces, writing the recipe of a space, running a recipe, asking for an ink by its name, writing and
+ * reading a block by itself, reading a designer's text into a page. Link libsktelbaan.a.
  *
  * How a reply is read, what may be passed and what a caller owes is told in sktelbaan_runner.h, with the refusals.
  *
@@ -29,8 +29,8 @@
 extern "C" {
 #endif
 
-/* The most blocks of a page, and the bytes of a block. */
-enum { SKTELBAAN_MOST_BLOCKS = 64, SKTELBAAN_BLOCK_BYTES = 512 };
+/* The bytes of a block; a page has at most SKTELBAAN_MOST_BLOCKS of them. */
+enum { SKTELBAAN_BLOCK_BYTES = 512 };
 
 /* The device spaces, by the numbers that they are asked for and referred to. */
 enum { SKTELBAAN_DEVICE_GRAY = 0xFF01, SKTELBAAN_DEVICE_RGB = 0xFF03, SKTELBAAN_DEVICE_CMYK = 0xFF04 };

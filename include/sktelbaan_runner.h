@@ -38,6 +38,11 @@ extern "C" {
 #define SKTELBAAN_VERSION_PATCH 0
 #define SKTELBAAN_VERSION "0.1.0"
 
+/* The most blocks of a page, and a number such as this as text. */
+#define SKTELBAAN_MOST_BLOCKS 64
+#define SKTELBAAN_SPELLED(number) SKTELBAAN_AS_IT_STANDS(number)
+#define SKTELBAAN_AS_IT_STANDS(words) #words
+
 /* The refusal that a reply is, by its number in the list below; 0 where nothing is refused. */
 static inline uint32_t sktelbaan_refusal(uint64_t reply) { return (uint32_t)reply; }
 
@@ -54,7 +59,7 @@ static inline int sktelbaan_moved(uint64_t reply) { return sktelbaan_refusal(rep
 
 /* The refusals. */
 enum sktelbaan_refusals {
-    /* The page is not 1 to 64 whole blocks of 512 bytes. */
+    /* The page is not 1 to SKTELBAAN_MOST_BLOCKS whole blocks of 512 bytes. */
     SKTELBAAN_REFUSED_LENGTH = 1,
     /* The check stored in a block is not that of its bytes: the block was damaged, or changed without writing its check anew. */
     SKTELBAAN_REFUSED_CHECK = 2,
@@ -85,14 +90,14 @@ enum sktelbaan_refusals {
     SKTELBAAN_REFUSED_TEXT_NUMBER = 13,
     /* A key of it is missing, doubled or unknown. */
     SKTELBAAN_REFUSED_TEXT_KEY = 14,
-    /* Its spaces take more than 64 blocks. */
+    /* Its spaces take more than SKTELBAAN_MOST_BLOCKS blocks. */
     SKTELBAAN_REFUSED_TEXT_BLOCKS = 15
 };
 
 /* A refusal in words, of the number that sktelbaan_refusal gives. The text stays for good: do not free it. */
 static inline const char *sktelbaan_refusal_text(uint32_t refusal) {
     static const char *const texts[] = {
-        "the page is not 1 to 64 blocks of 512 bytes",
+        "the page is not 1 to " SKTELBAAN_SPELLED(SKTELBAAN_MOST_BLOCKS) " blocks of 512 bytes",
         "a block's check is not that of its bytes",
         "a block of unknown kind, with a wrong own number, a byte that should be zero, or a bad name",
         "a white point, black point, gamma, range or hival that PDF does not allow",
@@ -106,7 +111,7 @@ static inline const char *sktelbaan_refusal_text(uint32_t refusal) {
         "the text has bad syntax, no space, or an entry of the wrong form or length, or is unfinished",
         "a number of the text is too large or too fine",
         "a key of the text is missing, doubled or unknown",
-        "the text has more than 64 blocks",
+        "the text has more than " SKTELBAAN_SPELLED(SKTELBAAN_MOST_BLOCKS) " blocks",
     };
     return refusal >= 1 && refusal <= 15 ? texts[refusal - 1] : "not a refusal of this library";
 }

@@ -29,10 +29,8 @@ pub struct Ink<'a> {
 /// ```
 /// let refusal = sktelbaan::find_ink(&[0; 512], &[0; 100], b"Gold").unwrap_err();
 /// assert_eq!(refusal.page, Some(sktelbaan::InkPage::House));
-/// assert_eq!(
-///     refusal.to_string(),
-///     "the house page refused 1 block 0: the page is not 1 to 64 blocks of 512 bytes"
-/// );
+/// let words = format!("the page is not 1 to {} blocks of 512 bytes", sktelbaan::MOST_BLOCKS);
+/// assert_eq!(refusal.to_string(), format!("the house page refused 1 block 0: {words}"));
 /// let refusal = sktelbaan::find_ink(&[0; 512], &[0; 512], b"Gold").unwrap_err();
 /// assert_eq!((refusal.refusal.number, refusal.page), (8, None));
 /// assert!(refusal.to_string().ends_with("neither page has an ink of that name"));

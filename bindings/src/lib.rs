@@ -1,7 +1,7 @@
 //! A safe interface to Sktelbaan, a proved library of the colour-space records of PDF
 //! (ISO 32000-1, clause 8.6).
 //!
-//! A page is 1 to 64 blocks of 512 bytes. Its spaces are asked for by their block's number, and the
+//! A page is 1 to [`MOST_BLOCKS`] blocks of 512 bytes. Its spaces are asked for by their block's number, and the
 //! device spaces by [`DEVICE_GRAY`], [`DEVICE_RGB`] and [`DEVICE_CMYK`]. A block by itself is written
 //! by [`write_block`] and read by [`read_block`]. An ink is asked for by its name with [`find_ink`], of
 //! the job's page and the house page. Components are signed counts
@@ -35,6 +35,16 @@ mod text;
 pub use ink::{find_ink, Ink, InkPage, InkRefusal};
 pub use record::{read_block, read_numbers, write_block, write_numbers, Body, Record};
 pub use text::{TextReader, Unread, PAGE_BYTES};
+
+/// The most blocks of a page, as a literal, for the words of refusals.
+macro_rules! most_blocks {
+    () => {
+        64
+    };
+}
+
+/// The most blocks of a page.
+pub const MOST_BLOCKS: usize = most_blocks!();
 
 /// The number that asks for DeviceGray.
 pub const DEVICE_GRAY: u32 = 0xff01;
@@ -166,7 +176,8 @@ impl fmt::Display for Colour {
 /// ```
 /// let refusal = sktelbaan::validate(&[0; 100]).unwrap_err();
 /// assert_eq!((refusal.number, refusal.block), (1, 0));
-/// assert_eq!(refusal.to_string(), "refused 1 block 0: the page is not 1 to 64 blocks of 512 bytes");
+/// let words = format!("the page is not 1 to {} blocks of 512 bytes", sktelbaan::MOST_BLOCKS);
+/// assert_eq!(refusal.to_string(), format!("refused 1 block 0: {words}"));
 /// ```
 #[derive(Clone, Copy, Debug, PartialEq, Eq, Hash)]
 pub struct Refusal {
@@ -178,7 +189,7 @@ pub struct Refusal {
 
 /// The refusals 1 to 15 in words, as C has them.
 const MEANINGS: [&str; 15] = [
-    "the page is not 1 to 64 blocks of 512 bytes",
+    concat!("the page is not 1 to ", most_blocks!(), " blocks of 512 bytes"),
     "a block's check is not that of its bytes",
     "a block of unknown kind, with a wrong own number, a byte that should be zero, or a bad name",
     "a white point, black point, gamma, range or hival that PDF does not allow",
@@ -192,7 +203,7 @@ const MEANINGS: [&str; 15] = [
     "the text has bad syntax, no space, or an entry of the wrong form or length, or is unfinished",
     "a number of the text is too large or too fine",
     "a key of the text is missing, doubled or unknown",
-    "the text has more than 64 blocks",
+    concat!("the text has more than ", most_blocks!(), " blocks"),
 ];
 
 /// When a refusal of this number is given.
@@ -254,7 +265,7 @@ fn colour(reply: u64, floats: [f64; 4]) -> Result<Colour, Refusal> {
     Ok(Colour { answer, moved })
 }
 
-/// Validates a page: 512 bytes for each of its 1 to 64 blocks. Refusals 1 to 7.
+/// Validates a page: 512 bytes for each of its 1 to [`MOST_BLOCKS`] blocks. Refusals 1 to 7.
 ///
 /// ```
 /// // A block of zeros is a page with no spaces.
@@ -513,9 +524,16 @@ mod tests {
 
     #[test]
     fn refusals_have_the_words_of_the_header() {
-        let texts: Vec<&str> = HEADERS
+        // The most blocks stand there by their name.
+        let spelled = "\" SKTELBAAN_SPELLED(SKTELBAAN_MOST_BLOCKS) \"";
+        let most = HEADERS
+            .lines()
+            .find_map(|line| line.strip_prefix("#define SKTELBAAN_MOST_BLOCKS "))
+            .expect("the header has the most blocks");
+        let texts: Vec<String> = HEADERS
             .lines()
             .filter_map(|line| line.trim().strip_prefix('"')?.strip_suffix("\","))
+            .map(|text| text.replace(spelled, most))
             .collect();
         assert_eq!(texts, MEANINGS);
         let other = Refusal {
@@ -539,6 +557,7 @@ mod tests {
             );
         }
         assert!(HEADERS.contains(&format!("SKTELBAAN_MOST_WORDS = {LONGEST} ")));
+        assert!(HEADERS.contains(&format!("#define SKTELBAAN_MOST_BLOCKS {MOST_BLOCKS}\n")));
         for (name, number) in [
             ("SKTELBAAN_GRAY", 1),
             ("SKTELBAAN_RGB", 2),

@@ -66,7 +66,7 @@ pub enum Body {
 /// One record: the block's own number, what it records, and the bytes of a name or of a palette.
 #[derive(Clone, Copy, Debug, PartialEq, Eq, Hash)]
 pub struct Record {
-    /// The block's own number, 0 to 63 in an accepted record.
+    /// The block's own number, below [`MOST_BLOCKS`](crate::MOST_BLOCKS) in an accepted record.
     pub number: u16,
     /// What the block records.
     pub body: Body,
@@ -252,6 +252,9 @@ pub fn read_numbers(block: &[u8]) -> Result<([i32; 20], [u8; 504]), Refusal> {
 mod tests {
     use super::*;
 
+    /// The least number that no block has.
+    const MOST: i32 = crate::MOST_BLOCKS as i32;
+
     fn write_into(numbers: &[i32; 20], bytes: &[u8; 504], room: usize) -> (u64, Vec<u8>) {
         let mut block = vec![0xaa; room];
         // SAFETY: as in `write_block`.
@@ -287,7 +290,7 @@ mod tests {
         let mut name = zeros;
         name[..3].copy_from_slice(b"Ink");
         let rows: [(&[i32], [u8; 504]); 7] = [
-            (&[63, 0], zeros),
+            (&[MOST - 1, 0], zeros),
             (&[1, 1, 5, one, 7, 0, 1, 2, 2 * one], zeros),
             (
                 &[
@@ -347,9 +350,15 @@ mod tests {
         // Each place that is no field of 32 bits, with the least number that is too large for its rule.
         for (numbers, bytes) in records() {
             let rules: &[(usize, u64, i32)] = match numbers[1] {
-                4 => &[(0, 3, 64), (1, 3, 7), (2, 6, 64), (3, 4, 256)],
-                5 => &[(0, 3, 64), (1, 3, 7), (2, 6, 64), (3, 5, 5), (4, 3, 128)],
-                _ => &[(0, 3, 64), (1, 3, 7)],
+                4 => &[(0, 3, MOST), (1, 3, 7), (2, 6, MOST), (3, 4, 256)],
+                5 => &[
+                    (0, 3, MOST),
+                    (1, 3, 7),
+                    (2, 6, MOST),
+                    (3, 5, 5),
+                    (4, 3, 128),
+                ],
+                _ => &[(0, 3, MOST), (1, 3, 7)],
             };
             for (place, number, limit) in rules {
                 for v in [*limit, 65536, 65536 + limit, -1, i32::MIN, i32::MAX] {

@@ -2,10 +2,13 @@
 
 use std::fmt;
 
-use crate::{meaning_of, raw};
+use crate::{meaning_of, raw, MOST_BLOCKS};
 
 /// The bytes of the longest page: a room of so many is always enough.
-pub const PAGE_BYTES: usize = 64 * 512;
+pub const PAGE_BYTES: usize = MOST_BLOCKS * 512;
+
+/// The spaces that a text may have open and still return to.
+const SPACES: usize = MOST_BLOCKS + 1;
 
 /// Why a text is no page: a refusal, and the byte of the text that it is about, counted from 0.
 #[derive(Clone, Copy, Debug, PartialEq, Eq, Hash)]
@@ -30,9 +33,9 @@ struct Memory {
     words: [u64; 25],
     values: [i32; 30],
     word: [u8; 1024],
-    marks: [u32; 65],
-    names: [u8; 128 * 65],
-    opens: [u32; 64],
+    marks: [u32; SPACES],
+    names: [u8; 128 * SPACES],
+    opens: [u32; MOST_BLOCKS],
     blocks: [u8; PAGE_BYTES],
 }
 
@@ -58,9 +61,9 @@ impl TextReader {
             words: [0; 25],
             values: [0; 30],
             word: [0; 1024],
-            marks: [0; 65],
-            names: [0; 128 * 65],
-            opens: [0; 64],
+            marks: [0; SPACES],
+            names: [0; 128 * SPACES],
+            opens: [0; MOST_BLOCKS],
             blocks: [0; PAGE_BYTES],
         });
         let m = &mut *memory;
