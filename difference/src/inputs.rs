@@ -1,7 +1,9 @@
 //! Random input: pages, numbers to be asked for, colours, lists of words, records, blocks and texts.
 
 use crate::ours;
-use reference::block::{lay, seal, Body, Record, BLOCK, DEVICE_CMYK, DEVICE_GRAY, DEVICE_RGB};
+use reference::block::{
+    lay, seal, Body, Record, BLOCK, DEVICE_CMYK, DEVICE_GRAY, DEVICE_RGB, MOST_BLOCKS,
+};
 use reference::generate::{
     damage, damage_recipe, long_recipe, random_component, random_lone_record, random_page,
     random_page_of, random_recipe, repair, Rng,
@@ -11,6 +13,9 @@ use reference::page::{components, spaces};
 use reference::recipe::{recipe_of, MOST_WORDS};
 use reference::text::generate as texts;
 use sktelbaan::PAGE_BYTES;
+
+/// The least number that no block has.
+const MOST: u16 = MOST_BLOCKS as u16;
 
 /// A page: accepted, broken in one to three ways, or of random bytes.
 pub fn page(rng: &mut Rng) -> Vec<u8> {
@@ -52,7 +57,7 @@ fn random_bytes(rng: &mut Rng) -> Vec<u8> {
     let length = match rng.below(3) {
         0 => rng.below(1100),
         1 => rng.below(6) * BLOCK,
-        _ => rng.below(66 * BLOCK),
+        _ => rng.below((MOST_BLOCKS + 2) * BLOCK),
     };
     (0..length).map(|_| rng.next() as u8).collect()
 }
@@ -82,10 +87,13 @@ pub fn number(rng: &mut Rng, page: &[u8]) -> u32 {
         1 => match rng.below(5) {
             0 => count as u32,
             1 => 0xff00 + rng.below(8) as u32,
-            2 => rng.below(70) as u32,
+            2 => rng.below(MOST_BLOCKS + 6) as u32,
             // A device code or a block's number in the low half alone.
             3 => rng.next() as u32 & 0xffff_0000 | rng.pick(&[0, 1, 0xff01, 0xff03, 0xff04], 0),
-            _ => rng.pick(&[u32::MAX, 1 << 31, i32::MAX as u32, 64, 1 << 23], 64),
+            _ => {
+                let most = u32::from(MOST);
+                rng.pick(&[u32::MAX, 1 << 31, i32::MAX as u32, most, 1 << 23], most)
+            }
         },
         2 => rng.below(count) as u32,
         _ => {
@@ -187,8 +195,8 @@ fn moved_gamma(rng: &mut Rng, gamma: &mut i32) {
 fn moved_reference(rng: &mut Rng, reference: &mut u16) {
     *reference = match rng.below(4) {
         0 => 0xff00 + rng.below(7) as u16,
-        1 => 60 + rng.below(8) as u16,
-        2 => rng.below(64) as u16,
+        1 => MOST - 4 + rng.below(8) as u16,
+        2 => rng.below(MOST_BLOCKS) as u16,
         _ => rng.next() as u16,
     };
 }
@@ -249,14 +257,17 @@ fn alter_body(rng: &mut Rng, body: &mut Body) {
 
 /// A record: one that is accepted by itself, or one altered in one to three places.
 pub fn record(rng: &mut Rng) -> Record {
-    let number = rng.below(64) as u16;
+    let number = rng.below(MOST_BLOCKS) as u16;
     let mut record = random_lone_record(rng, number);
     if rng.once_in(3) {
         return record;
     }
     for _ in 0..1 + rng.below(3) {
         match rng.below(8) {
-            0 => record.number = rng.pick(&[0, 62, 63, 64, 65, 256, 65535], 64),
+            0 => {
+                let numbers = [0, MOST - 2, MOST - 1, MOST, MOST + 1, 256, 65535];
+                record.number = rng.pick(&numbers, MOST);
+            }
             1 => {
                 let reach = rng.pick(&[4, 128, 130, 504], 504);
                 record.bytes[rng.below(reach)] = rng.next() as u8;
@@ -270,7 +281,7 @@ pub fn record(rng: &mut Rng) -> Record {
 /// A record as C passes it: numbers and bytes of an accepted one, with up to three numbers of any 32 bits
 /// in place of its own.
 pub fn numbers(rng: &mut Rng) -> ([i32; 20], [u8; 504]) {
-    let number = rng.below(64) as u16;
+    let number = rng.below(MOST_BLOCKS) as u16;
     let record = ours(&random_lone_record(rng, number));
     let (mut numbers, mut bytes) = (record.numbers(), record.bytes);
     for _ in 0..rng.below(4) {
@@ -279,7 +290,13 @@ pub fn numbers(rng: &mut Rng) -> ([i32; 20], [u8; 504]) {
             0 => rng.next() as i32,
             1 => rng.pick(&[0xff01, 0xff03, 0xff04, 0xff02, 65535, 65536], 0),
             2 => rng.between(-2, 9),
-            _ => rng.pick(&[-1, i32::MIN, i32::MAX, 63, 64, 127, 128, 255, 256], 0),
+            _ => {
+                let most = i32::from(MOST);
+                rng.pick(
+                    &[-1, i32::MIN, i32::MAX, most - 1, most, 127, 128, 255, 256],
+                    0,
+                )
+            }
         };
     }
     if rng.once_in(8) {
@@ -318,11 +335,11 @@ pub fn block(rng: &mut Rng) -> Vec<u8> {
 pub fn text(rng: &mut Rng) -> (Vec<u8>, usize) {
     let mut text = match rng.below(40) {
         0 => {
-            let count = 60 + rng.below(7);
+            let count = MOST_BLOCKS - 4 + rng.below(7);
             texts::many_spaces(rng, count)
         }
         1 => {
-            let depth = rng.below(90);
+            let depth = rng.below(MOST_BLOCKS + 26);
             texts::nested_text(rng, depth)
         }
         2 => Vec::new(),

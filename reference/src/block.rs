@@ -94,7 +94,7 @@ pub enum Body {
 /// One record: the block's own number, what it records, and the bytes of a name or of a palette.
 #[derive(Clone, Copy, Debug, PartialEq, Eq)]
 pub struct Record {
-    /// The block's own number, 0 to 63 in an accepted record.
+    /// The block's own number, below [`MOST_BLOCKS`] in an accepted record.
     pub number: u16,
     /// What the block records.
     pub body: Body,

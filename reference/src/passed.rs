@@ -133,7 +133,8 @@ mod tests {
     #[test]
     fn a_number_of_any_32_bits_has_its_refusal() {
         let any = [65536, 65537, -1, i32::MIN, i32::MAX];
-        for v in any.into_iter().chain([64, 65, 0xff02]) {
+        let most = MOST_BLOCKS as i32;
+        for v in any.into_iter().chain([most, most + 1, 0xff02]) {
             assert_eq!(refusal(&[v, 0], false), 3, "own number {v}");
             assert_eq!(refusal(&[0, 4, v, 3], false), 6, "base {v}");
             assert_eq!(refusal(&[0, 5, v, 1, 3], true), 6, "alternate {v}");

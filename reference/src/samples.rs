@@ -48,7 +48,7 @@ fn palette_bytes(count: usize) -> Vec<u8> {
     (0..count).map(|place| (place * 73 % 256) as u8).collect()
 }
 
-/// A page of 64 blocks with every family, and Indexed spaces over every kind of base.
+/// A page of the most blocks with every family, and Indexed spaces over every kind of base.
 fn full_page() -> Vec<u8> {
     let mut records: Vec<Record> = Vec::new();
     let mut turn = 0;
@@ -145,7 +145,7 @@ pub fn all() -> Vec<Sample> {
         ),
         sample(
             "full",
-            "64 blocks, as many as a page has, with every family.",
+            "As many blocks as a page has, with every family.",
             full_page(),
         ),
         sample(

@@ -3,9 +3,14 @@
 mod common;
 
 use common::*;
-use reference::block::{read_block, write_block, Body, Record, BLOCK, DEVICE_GRAY, DEVICE_RGB};
+use reference::block::{
+    read_block, write_block, Body, Record, BLOCK, DEVICE_GRAY, DEVICE_RGB, MOST_BLOCKS,
+};
 use reference::generate::{random_lone_record, repair, Rng};
 use reference::numbers::ONE;
+
+/// The least number that no block has.
+const MOST: u16 = MOST_BLOCKS as u16;
 
 /// What writing replies, having looked that a refusal altered nothing.
 fn written(record: &Record) -> Result<(), u32> {
@@ -41,14 +46,14 @@ fn room_of_another_length_is_10() {
         assert!(lent.iter().all(|byte| *byte == 0x5a));
         assert_eq!(read_block(&lent), Err(10));
         // 10 comes before every other refusal.
-        assert_eq!(write_block(&record(64, cal_gray(0)), &mut lent), Err(10));
+        assert_eq!(write_block(&record(MOST, cal_gray(0)), &mut lent), Err(10));
     }
 }
 
 #[test]
 fn writing_refuses_forms_with_3() {
-    assert_eq!(written(&record(63, Body::Free)), Ok(()));
-    assert_eq!(written(&record(64, Body::Free)), Err(3));
+    assert_eq!(written(&record(MOST - 1, Body::Free)), Ok(()));
+    assert_eq!(written(&record(MOST, Body::Free)), Err(3));
     assert_eq!(written(&record(u16::MAX, Body::Free)), Err(3));
     for body in [
         Body::Free,
@@ -148,8 +153,8 @@ fn writing_refuses_numbers_with_4_and_5() {
 fn writing_refuses_references_with_6_and_never_with_7() {
     for (reference, expected) in [
         (0, Ok(())),
-        (63, Ok(())),
-        (64, Err(6)),
+        (MOST - 1, Ok(())),
+        (MOST, Err(6)),
         (0xff00, Err(6)),
         (0xff01, Ok(())),
         (0xff02, Err(6)),
@@ -169,14 +174,14 @@ fn writing_refuses_references_with_6_and_never_with_7() {
 #[test]
 fn the_order_of_writing() {
     // Own number (3) before a gamma of 0 (4); white (4) before gamma (5); hival (4) and exponent (5) before 6.
-    assert_eq!(written(&record(64, cal_gray(0))), Err(3));
+    assert_eq!(written(&record(MOST, cal_gray(0))), Err(3));
     let mut body = cal_gray(5 * ONE);
     if let Body::CalGray { black, .. } = &mut body {
         black[2] = -1;
     }
     assert_eq!(written(&record(0, body)), Err(4));
-    assert_eq!(written(&indexed(64, 256)), Err(4));
-    assert_eq!(written(&separation(0, 64, 5, [0; 4], [0; 4])), Err(5));
+    assert_eq!(written(&indexed(MOST, 256)), Err(4));
+    assert_eq!(written(&separation(0, MOST, 5, [0; 4], [0; 4])), Err(5));
 }
 
 #[test]
@@ -214,7 +219,7 @@ fn reading_refuses_forms_with_3() {
     ] {
         assert_eq!(changed(&made, |block| block[1] = 1), Err(3));
         assert_eq!(changed(&made, |block| block[2] = 1), Err(3));
-        assert_eq!(changed(&made, |block| block[3] = 64), Err(3));
+        assert_eq!(changed(&made, |block| block[3] = MOST as u8), Err(3));
         for place in first..=last {
             assert_eq!(
                 changed(&made, |block| block[place] = 1),
@@ -224,7 +229,10 @@ fn reading_refuses_forms_with_3() {
         }
     }
     assert_eq!(changed(&palette(1, &[]), |block| block[1] = 1), Err(3));
-    assert_eq!(changed(&palette(1, &[]), |block| block[3] = 64), Err(3));
+    assert_eq!(
+        changed(&palette(1, &[]), |block| block[3] = MOST as u8),
+        Err(3)
+    );
     for length in [0, 3, 5, 128, 255] {
         assert_eq!(changed(&gold(), |block| block[7] = length), Err(3));
     }
@@ -258,7 +266,7 @@ fn random_records_are_read_back() {
     let mut rng = Rng::new(1);
     let mut kinds = [0; 7];
     for _ in 0..20_000 {
-        let number = rng.below(64) as u16;
+        let number = rng.below(MOST_BLOCKS) as u16;
         let made = random_lone_record(&mut rng, number);
         let mut lent = [rng.next() as u8; BLOCK];
         assert_eq!(write_block(&made, &mut lent), Ok(()));

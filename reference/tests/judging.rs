@@ -3,7 +3,7 @@
 mod common;
 
 use common::*;
-use reference::block::{Body, BLOCK, DEVICE_CMYK, DEVICE_GRAY, DEVICE_RGB};
+use reference::block::{Body, BLOCK, DEVICE_CMYK, DEVICE_GRAY, DEVICE_RGB, MOST_BLOCKS};
 use reference::colour::evaluate;
 use reference::generate::{damage, random_page, Rng};
 use reference::numbers::ONE;
@@ -18,7 +18,7 @@ const ROUNDS: usize = if cfg!(debug_assertions) {
 
 /// Every fault of a page as (pass, block, number), found byte by byte.
 fn faults(page: &[u8]) -> Vec<(u32, u32, u32)> {
-    if page.len() / 512 * 512 != page.len() || page.is_empty() || page.len() > 64 * 512 {
+    if page.len() / 512 * 512 != page.len() || page.is_empty() || page.len() > MOST_BLOCKS * 512 {
         return vec![(0, 0, 1)];
     }
     let count = page.len() / 512;
@@ -191,7 +191,7 @@ fn random_pages_are_accepted_and_hold_every_family() {
             assert!(seen.contains_key(&chain), "{chain} never made");
         }
     }
-    assert_eq!(sizes.len(), 64);
+    assert_eq!(sizes.len(), MOST_BLOCKS);
 }
 
 #[test]
@@ -301,7 +301,7 @@ fn references_look_at_the_kind_alone() {
     );
     assert_eq!(validate(&over(cal_gray(ONE))), Err((7, 2)));
     // Itself, another Separation, a palette, no block of the page.
-    for alternate in [0, 1, 3, 4, 5, 63] {
+    for alternate in [0, 1, 3, 4, 5, MOST_BLOCKS as u16 - 1] {
         let page = page(&[
             separation(0, alternate, 1, [0; 4], [0; 4]),
             separation(1, DEVICE_RGB, 1, [0; 4], [0; 4]),

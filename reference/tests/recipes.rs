@@ -3,7 +3,7 @@
 mod common;
 
 use common::*;
-use reference::block::{Body, BLOCK, DEVICE_CMYK, DEVICE_GRAY, DEVICE_RGB};
+use reference::block::{Body, BLOCK, DEVICE_CMYK, DEVICE_GRAY, DEVICE_RGB, MOST_BLOCKS};
 use reference::cie::Answer;
 use reference::colour::{evaluate, Reply};
 use reference::generate::{damage, random_components, random_page, Rng};
@@ -131,7 +131,7 @@ fn refusals_come_in_order() {
         let number = match rng.below(4) {
             0 => rng.next() as u32,
             1 => 0xff00 + rng.below(8) as u32,
-            _ => rng.below(70) as u32,
+            _ => rng.below(MOST_BLOCKS + 6) as u32,
         };
         let mut lent = [5; 1];
         let expected = match validate(&page) {
@@ -169,7 +169,19 @@ fn asking_for_what_is_no_space_is_8() {
         palette(2, &[1]),
     ]);
     let eight = Err((8, 0));
-    for number in [0, 2, 3, 63, 64, 0xff00, 0xff02, 0xff05, 0x1_ff01, u32::MAX] {
+    let most = MOST_BLOCKS as u32;
+    for number in [
+        0,
+        2,
+        3,
+        most - 1,
+        most,
+        0xff00,
+        0xff02,
+        0xff05,
+        0x1_ff01,
+        u32::MAX,
+    ] {
         assert_eq!(evaluate(&page, number, &[]), eight);
         assert_eq!(recipe_of(&page, number), Err((8, 0)));
     }

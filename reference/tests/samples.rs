@@ -1,6 +1,6 @@
 //! The samples on disk are the ones that are written today, and show what they say.
 
-use reference::block::BLOCK;
+use reference::block::{BLOCK, MOST_BLOCKS};
 use reference::listing::list;
 use reference::page::{spaces, validate};
 use reference::samples::{all, colours, inks, readme, TEXTS};
@@ -40,7 +40,7 @@ fn all_but_the_damaged_one_are_accepted() {
         };
         assert_eq!(validate(&sample.page), expected, "{}", sample.name);
         if sample.name == "full" {
-            assert_eq!(expected, Ok(64));
+            assert_eq!(expected, Ok(MOST_BLOCKS));
             families.extend(spaces(&sample.page).map(|(_, family)| family.name()));
         }
     }

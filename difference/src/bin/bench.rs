@@ -7,7 +7,7 @@ use reference::block::{DEVICE_CMYK, DEVICE_GRAY, DEVICE_RGB};
 use reference::generate::Rng;
 use reference::numbers::ONE;
 use reference::records::{cal_gray, cal_rgb, free, indexed_run, lab, page, separation, USUAL};
-use sktelbaan::{TextReader, PAGE_BYTES};
+use sktelbaan::{TextReader, MOST_BLOCKS, PAGE_BYTES};
 use std::hint::black_box;
 use std::time::Instant;
 
@@ -141,17 +141,17 @@ fn validation(full: &[u8]) {
         (TIMES * bytes.len()) as f64 / time
     }
     assert!(sktelbaan::validate(full).is_ok());
-    println!("| {} bytes, 64 blocks | GB/s |", full.len());
+    println!("| {} bytes, {MOST_BLOCKS} blocks | GB/s |", full.len());
     println!("|---|---|");
     println!("| `validate` | {:.2} |", speed(full, sktelbaan::validate));
     let rival = speed(full, fast::validate);
     println!("| the fast rival | {rival:.2} |");
     let plain = speed(full, reference::page::validate);
     println!("| the plain reference | {plain:.2} |");
-    let free = page(&(0..64).map(free).collect::<Vec<_>>());
+    let free = page(&(0..MOST_BLOCKS as u16).map(free).collect::<Vec<_>>());
     assert!(sktelbaan::validate(&free).is_ok());
     let empty = speed(&free, sktelbaan::validate);
-    println!("| `validate`, 64 free blocks | {empty:.2} |");
+    println!("| `validate`, {MOST_BLOCKS} free blocks | {empty:.2} |");
     println!("| the sum of the bytes | {:.2} |", speed(full, sum));
     let words = speed(full, sum_of_words);
     println!("| the sum of the bytes, eight at a time | {words:.2} |");
@@ -297,7 +297,7 @@ fn reading() {
     );
     println!("|---|---|---|---|---|");
     for (name, text) in texts() {
-        let page = reference::text::read(&text, 64);
+        let page = reference::text::read(&text, MOST_BLOCKS);
         let part = |length: usize| {
             let mut fastest = f64::INFINITY;
             for _ in 0..TEXT_ROUNDS {
@@ -314,7 +314,7 @@ fn reading() {
         assert!(page.is_ok(), "{name} are accepted");
         let (whole, cut) = (part(text.len()), part(64));
         let time = least(|| {
-            black_box(&reference::text::read(black_box(&text), 64).is_ok());
+            black_box(&reference::text::read(black_box(&text), MOST_BLOCKS).is_ok());
         });
         let plain = 1000.0 * text.len() as f64 / time;
         let bytes = text.len();

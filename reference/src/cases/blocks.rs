@@ -2,6 +2,7 @@
 
 use super::format::{decimal, Case};
 use super::maker::Maker;
+use super::pages::{LAST, MOST};
 use crate::block::{lay, Body, Record, BODY, DEVICE_CMYK, DEVICE_GRAY, DEVICE_RGB, NAME};
 use crate::numbers::ONE;
 use crate::records::{
@@ -13,7 +14,7 @@ const ENDS: [i32; 2] = [i32::MIN, i32::MAX];
 
 /// The references that stand on either side of the line.
 const REFERENCES: [u16; 11] = [
-    0, 63, 64, 0x0100, 0xff00, 0xff01, 0xff02, 0xff03, 0xff04, 0xff05, 0xffff,
+    0, LAST, MOST, 0x0100, 0xff00, 0xff01, 0xff02, 0xff03, 0xff04, 0xff05, 0xffff,
 ];
 
 /// A CalGray, a CalRGB and a Lab with these points, by their names.
@@ -94,10 +95,10 @@ pub(super) fn cases() -> Vec<Case> {
 fn own_numbers(maker: &mut Maker) {
     maker.both("free block 5 has check 5 and 2525", &free(5));
     maker.both("free block 0", &free(0));
-    for number in [63, 64, 256, 0xffff] {
+    for number in [LAST, MOST, 256, 0xffff] {
         maker.both(&format!("free block {number}"), &free(number));
     }
-    for number in [63, 64] {
+    for number in [LAST, MOST] {
         maker.both(&format!("CalGray block {number}"), &cal_gray(number, ONE));
         let block = indexed(number, DEVICE_GRAY, 0);
         maker.both(&format!("Indexed block {number}"), &block);
@@ -295,7 +296,7 @@ fn palettes(maker: &mut Maker) {
     let counting: Vec<u8> = (0..BODY).map(|place| place as u8).collect();
     maker.both("palette of zeros", &palette(0, &[]));
     maker.both("palette of bytes that count", &palette(2, &counting));
-    maker.both("palette of bytes FF", &palette(63, &[0xff; BODY]));
+    maker.both("palette of bytes FF", &palette(LAST, &[0xff; BODY]));
     let mut last = [0; BODY];
     last[BODY - 1] = 1;
     maker.both("palette with its last byte alone", &palette(0, &last));
@@ -339,7 +340,8 @@ fn palettes(maker: &mut Maker) {
 
 /// Which refusal comes first.
 fn orders(maker: &mut Maker) {
-    maker.both("own number 64 and gamma 0, 3 before 4", &cal_gray(64, 0));
+    let label = format!("own number {MOST} and gamma 0, 3 before 4");
+    maker.both(&label, &cal_gray(MOST, 0));
     let [x, _, z] = WHITE;
     let [(_, mut gray), (_, mut rgb), _] = with_points([x, 0, z], [0; 3]);
     if let Body::CalGray { gamma, .. } = &mut gray.body {
@@ -350,11 +352,15 @@ fn orders(maker: &mut Maker) {
     }
     maker.both("white Y 0 and CalGray gamma 1.85, 4 before 5", &gray);
     maker.both("white Y 0 and CalRGB gammas 0, 4 before 5", &rgb);
-    maker.both("hival 256 and base 64, 4 before 6", &indexed(0, 64, 256));
-    maker.both("own number 64 and base 64, 3 before 6", &indexed(64, 64, 0));
-    let five = separation(0, 64, 0, [0; 4], [0; 4]);
-    maker.both("exponent 0 and alternate 64, 5 before 6", &five);
+    let label = format!("hival 256 and base {MOST}, 4 before 6");
+    maker.both(&label, &indexed(0, MOST, 256));
+    let label = format!("own number {MOST} and base {MOST}, 3 before 6");
+    maker.both(&label, &indexed(MOST, MOST, 0));
+    let five = separation(0, MOST, 0, [0; 4], [0; 4]);
+    let label = format!("exponent 0 and alternate {MOST}, 5 before 6");
+    maker.both(&label, &five);
     let mut three = five;
     three.bytes[1] = 0;
-    maker.both("a zero byte in the name, exponent 0, alternate 64", &three);
+    let label = format!("a zero byte in the name, exponent 0, alternate {MOST}");
+    maker.both(&label, &three);
 }

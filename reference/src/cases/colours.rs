@@ -2,6 +2,7 @@
 
 use super::format::{decimal, Case};
 use super::maker::Maker;
+use super::pages::{LAST, MOST};
 use crate::block::{Body, Record, BLOCK, DEVICE_CMYK, DEVICE_GRAY, DEVICE_RGB};
 use crate::numbers::ONE;
 use crate::records::{cal_gray, cal_rgb, free, indexed_run, lab, page, palette, separation, USUAL};
@@ -331,8 +332,8 @@ fn refused_colours(maker: &mut Maker) {
         ("a free block", 0),
         ("a palette block", 3),
         ("no block of the page", 5),
-        ("block 63 of five", 63),
-        ("64", 64),
+        (&format!("block {LAST} of five"), u32::from(LAST)),
+        (&MOST.to_string(), u32::from(MOST)),
         ("FF00", 0xff00),
         ("FF02", 0xff02),
         ("FF05", 0xff05),

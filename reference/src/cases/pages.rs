@@ -8,6 +8,10 @@ use crate::records::{
     cal_gray, cal_rgb, changed, free, indexed, indexed_run, lab, page, palette, separation, USUAL,
 };
 
+/// The least number that no block has, and the last that one has.
+pub(super) const MOST: u16 = MOST_BLOCKS as u16;
+pub(super) const LAST: u16 = MOST - 1;
+
 /// A page of this many free blocks.
 pub(super) fn all_free(count: usize) -> Vec<u8> {
     page(&(0..count as u16).map(free).collect::<Vec<_>>())
@@ -70,11 +74,14 @@ fn lengths(maker: &mut Maker) {
         maker.validate(&format!("a page of {length} bytes"), &vec![0; length]);
     }
     maker.validate("an all-zero second block", &[0; 2 * BLOCK]);
-    let mut long = all_free(64);
+    let (most, more) = (MOST_BLOCKS, MOST_BLOCKS + 1);
+    let mut long = all_free(most);
     long.push(0);
-    maker.validate("64 blocks and a byte", &long);
-    maker.validate("64 blocks less a byte", &long[..64 * BLOCK - 1]);
-    maker.validate("65 blocks, block 0 faulty", &with_fault(all_free(65), 0, 2));
+    maker.validate(&format!("{most} blocks and a byte"), &long);
+    let label = format!("{most} blocks less a byte");
+    maker.validate(&label, &long[..most * BLOCK - 1]);
+    let label = format!("{more} blocks, block 0 faulty");
+    maker.validate(&label, &with_fault(all_free(more), 0, 2));
 }
 
 /// Each refusal at the first, a middle and the last block.
@@ -87,8 +94,9 @@ fn positions(maker: &mut Maker) {
         }
     }
     for refusal in [2, 7] {
-        let page = with_fault(all_free(MOST_BLOCKS), MOST_BLOCKS - 1, refusal);
-        let label = format!("refusal {refusal} in block 63 of 64");
+        let (last, most) = (MOST_BLOCKS - 1, MOST_BLOCKS);
+        let page = with_fault(all_free(most), last, refusal);
+        let label = format!("refusal {refusal} in block {last} of {most}");
         maker.validate(&label, &page);
     }
 }
@@ -119,15 +127,15 @@ fn in_one_block(maker: &mut Maker) {
         white[1] = 0;
     }
     maker.validate("4 before 5 in one CalRGB block", &page(&[rgb]));
-    maker.validate("4 before 6 in one block", &page(&[indexed(0, 64, 256)]));
+    maker.validate("4 before 6 in one block", &page(&[indexed(0, MOST, 256)]));
     let no_run = page(&[indexed(0, DEVICE_RGB, 256)]);
     maker.validate("4 before 7 in one block", &no_run);
     let tint =
         |alternate, exponent| page(&[separation(0, alternate, exponent, [0; 4], [0, 1, 0, 0])]);
-    maker.validate("5 before 6 in one block", &tint(64, 0));
+    maker.validate("5 before 6 in one block", &tint(MOST, 0));
     maker.validate("5 before 7 in one block", &tint(DEVICE_GRAY, 5));
-    maker.validate("6 before 7 in one Separation block", &tint(64, 1));
-    let lost = page(&[indexed(0, 64, 0)]);
+    maker.validate("6 before 7 in one Separation block", &tint(MOST, 1));
+    let lost = page(&[indexed(0, MOST, 0)]);
     maker.validate("6 before 7 in one Indexed block", &lost);
 }
 
@@ -155,7 +163,7 @@ fn references(maker: &mut Maker) {
         "no block of the page",
     ];
     let mut asked: Vec<(u16, String)> = (0..).zip(kinds.map(str::to_string)).collect();
-    asked.push((63, "block 63 of nine".to_string()));
+    asked.push((LAST, format!("block {LAST} of nine")));
     asked.push((0x0103, "block 0103".to_string()));
     asked.extend((0xff00..=0xff05).map(|code| (code, format!("{code:04X}"))));
     asked.push((0xffff, "FFFF".to_string()));
@@ -181,13 +189,15 @@ fn references(maker: &mut Maker) {
     ];
     maker.validate("Indexed over Separation over Lab", &page(&chain));
     let mut last = all_free(MOST_BLOCKS);
-    let gray = crate::block::lay(&cal_gray(63, ONE));
-    last[63 * BLOCK..].copy_from_slice(&gray);
-    let over = crate::block::lay(&plain_separation(0, 63));
+    let gray = crate::block::lay(&cal_gray(LAST, ONE));
+    last[usize::from(LAST) * BLOCK..].copy_from_slice(&gray);
+    let over = crate::block::lay(&plain_separation(0, LAST));
     last[..BLOCK].copy_from_slice(&over);
-    maker.validate("a reference from block 0 to block 63", &last);
-    let over = changed(last, 0, |block| block[5] = 64);
-    maker.validate("a reference from block 0 to block 64 of 64", &over);
+    let label = format!("a reference from block 0 to block {LAST}");
+    maker.validate(&label, &last);
+    let over = changed(last, 0, |block| block[5] = MOST as u8);
+    let label = format!("a reference from block 0 to block {MOST} of {MOST}");
+    maker.validate(&label, &over);
 }
 
 /// Palette runs: as few blocks as hold the bytes, none less and none more.
@@ -284,7 +294,7 @@ fn strays(maker: &mut Maker) {
         &page(&apart),
     );
     // The first fault is the Indexed block's: its palette would be astray.
-    let refused = [indexed(0, 64, 0), palette(1, &[])];
+    let refused = [indexed(0, MOST, 0), palette(1, &[])];
     maker.validate("a palette block after a refused Indexed", &page(&refused));
 }
 
@@ -316,7 +326,7 @@ fn entries(maker: &mut Maker) {
                     lab(3, USUAL),
                 ];
                 // Device alternates need no other block.
-                let used = if alternate < 64 { 4 } else { 1 };
+                let used = if alternate < MOST { 4 } else { 1 };
                 let label = format!("the {entry} {which} entry over {name}");
                 maker.validate(&label, &page(&records[..used]));
             }
@@ -358,7 +368,7 @@ fn limits(maker: &mut Maker) {
         records[1] = free(number);
         page(&records)
     };
-    for number in [0, 2, 64, 257] {
+    for number in [0, 2, MOST, 257] {
         let label = format!("block 1 with own number {number}");
         maker.validate(&label, &own(number));
     }
@@ -410,5 +420,6 @@ fn listings(maker: &mut Maker) {
             _ => vec![free(at)],
         });
     }
-    maker.validate_and_list("64 blocks with spaces", &page(&many));
+    let label = format!("{MOST} blocks with spaces");
+    maker.validate_and_list(&label, &page(&many));
 }

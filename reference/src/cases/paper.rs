@@ -5,7 +5,7 @@ use super::colours::counting;
 use super::format::Case;
 use super::maker::Maker;
 use super::pages::{all_free, run_page};
-use crate::block::{BLOCK, DEVICE_CMYK, DEVICE_GRAY};
+use crate::block::{BLOCK, DEVICE_CMYK, DEVICE_GRAY, MOST_BLOCKS};
 use crate::numbers::ONE;
 use crate::records::{cal_gray, cal_rgb, changed, indexed_run, lab, page, separation, USUAL};
 
@@ -84,8 +84,9 @@ fn limits(maker: &mut Maker) {
     maker.validate("Gamma 1.85 gives 5", &page(&[cal_gray(0, 1_850_000)]));
     maker.validate("Gamma of CalGray 0 gives 4", &page(&[cal_gray(0, 0)]));
     maker.validate("Gamma of CalRGB 0 gives 5", &page(&[cal_rgb(0, [0; 3])]));
-    maker.validate("64 blocks are judged", &all_free(64));
-    maker.validate("65 blocks give 1", &all_free(65));
+    let (most, more) = (MOST_BLOCKS, MOST_BLOCKS + 1);
+    maker.validate(&format!("{most} blocks are judged"), &all_free(most));
+    maker.validate(&format!("{more} blocks give 1"), &all_free(more));
     maker.validate("amin = amax is fine", &page(&[lab(0, [5, 5, 0, 1])]));
 }
 

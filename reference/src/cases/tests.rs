@@ -3,11 +3,14 @@
 use super::format::{answer_text, bytes_of, decimal, numbers_of, reply_text};
 use super::interpreter::{record_of, words_of};
 use super::*;
-use crate::block::BODY;
+use crate::block::{BLOCK, BODY, MOST_BLOCKS};
 use crate::cie::Answer;
 use crate::colour::Colour;
 use crate::text::readings;
 use std::collections::{BTreeSet, HashSet};
+
+/// The most bytes of a line that the program reads: those of two pages.
+const LINE: usize = 2 * MOST_BLOCKS * BLOCK;
 
 fn reply(label: &str) -> String {
     let case = all().into_iter().find(|case| case.label == label);
@@ -36,8 +39,8 @@ fn the_cases_are_well_formed() {
         assert!(labels.insert(case.label.clone()), "{}", case.label);
         assert!(case.result().is_some(), "{}", case.label);
         assert!(case.args.len() <= 23, "{}", case.label);
-        assert!(case.input_line().len() <= 65_000, "{}", case.label);
-        assert!(case.output_line().len() <= 65_000, "{}", case.label);
+        assert!(case.input_line().len() < LINE, "{}", case.label);
+        assert!(case.output_line().len() < LINE, "{}", case.label);
     }
     assert_eq!(ops(&paper::cases()), [30, 31, 32, 33, 34]);
     assert_eq!(ops(&numbers::cases()), (1..=13).collect::<Vec<_>>());
@@ -523,7 +526,7 @@ fn what_moves_by_hand() {
 fn records_are_their_numbers_and_bytes() {
     let mut rng = crate::generate::Rng::new(14);
     for _ in 0..500 {
-        let number = rng.below(64) as u16;
+        let number = rng.below(MOST_BLOCKS) as u16;
         let record = crate::generate::random_lone_record(&mut rng, number);
         let mut args = vec![i32::from(number), i32::from(record.body.kind())];
         args.extend(numbers_of(&record.body));

@@ -1,7 +1,7 @@
 //! Pages broken in one of many ways.
 
 use super::Rng;
-use crate::block::{seal, BLOCK, BODY, DEVICE_CMYK, DEVICE_GRAY, DEVICE_RGB};
+use crate::block::{seal, BLOCK, BODY, DEVICE_CMYK, DEVICE_GRAY, DEVICE_RGB, MOST_BLOCKS};
 use crate::numbers::{read_two, write_four, write_two, ONE};
 use crate::page::components;
 
@@ -130,8 +130,8 @@ fn length(v: &mut Victim<'_>) {
         0 => 0,
         1 => v.page.len().saturating_sub(1 + v.rng.below(BLOCK - 1)),
         2 => v.page.len() + 1 + v.rng.below(BLOCK - 1),
-        3 => 65 * BLOCK,
-        _ => (65 + v.rng.below(70)) * BLOCK,
+        3 => (MOST_BLOCKS + 1) * BLOCK,
+        _ => (MOST_BLOCKS + 1 + v.rng.below(70)) * BLOCK,
     };
     v.page.resize(length, 0);
 }
@@ -165,7 +165,8 @@ fn byte_one(v: &mut Victim<'_>) {
 
 fn own_number(v: &mut Victim<'_>) {
     let next = (v.any as u16).wrapping_add(1);
-    let own = v.rng.pick(&[0, 1, 63, 64, 256, 0xffff, next], 0);
+    let most = MOST_BLOCKS as u16;
+    let own = v.rng.pick(&[0, 1, most - 1, most, 256, 0xffff, next], 0);
     v.two_repaired(v.any, 2, own);
 }
 
@@ -198,7 +199,8 @@ fn exponent(v: &mut Victim<'_>) {
 fn reference(v: &mut Victim<'_>) {
     let at = v.block_of_kind(&[4, 5]);
     let other = v.rng.below(v.count()) as u16;
-    let blocks = [at as u16, other, other, other, v.count() as u16, 63, 64];
+    let (count, most) = (v.count() as u16, MOST_BLOCKS as u16);
+    let blocks = [at as u16, other, other, other, count, most - 1, most];
     let no_codes = [0xff00, 0xff02, 0xff05, 0xffff, 0x0100];
     let codes = [DEVICE_GRAY, DEVICE_RGB, DEVICE_CMYK];
     let few = [&blocks[..], &no_codes, &codes].concat();

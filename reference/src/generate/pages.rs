@@ -1,7 +1,9 @@
 //! Accepted records and pages of random spaces.
 
 use super::Rng;
-use crate::block::{write_block, Body, Record, BLOCK, BODY, DEVICE_CMYK, DEVICE_GRAY, DEVICE_RGB};
+use crate::block::{
+    write_block, Body, Record, BLOCK, BODY, DEVICE_CMYK, DEVICE_GRAY, DEVICE_RGB, MOST_BLOCKS,
+};
 use crate::numbers::ONE;
 use crate::page::Family;
 
@@ -216,7 +218,7 @@ fn random_record(rng: &mut Rng, plan: &[Plan], number: u16) -> Record {
 }
 
 /// A record of this own number and of any kind that is accepted by itself.
-/// It has no page: its references are device codes or any of 0..63.
+/// It has no page: its references are device codes or the number of any block.
 pub fn random_lone_record(rng: &mut Rng, number: u16) -> Record {
     let here = match rng.below(7) {
         0 => Plan::Free,
@@ -233,7 +235,7 @@ pub fn random_lone_record(rng: &mut Rng, number: u16) -> Record {
         },
     };
     let mut record = random_record(rng, &vec![here; usize::from(number) + 1], number);
-    let anywhere = rng.below(64) as u16;
+    let anywhere = rng.below(MOST_BLOCKS) as u16;
     match &mut record.body {
         Body::Indexed { base, .. } if rng.once_in(2) => *base = anywhere,
         Body::Separation {
@@ -248,9 +250,9 @@ pub fn random_lone_record(rng: &mut Rng, number: u16) -> Record {
     record
 }
 
-/// An accepted page of exactly this many blocks (taken into 1..64), of random spaces.
+/// An accepted page of exactly this many blocks (taken into 1..`MOST_BLOCKS`), of random spaces.
 pub fn random_page_of(rng: &mut Rng, count: usize) -> Vec<u8> {
-    let plan = plan_of(rng, count.clamp(1, 64));
+    let plan = plan_of(rng, count.clamp(1, MOST_BLOCKS));
     let mut page = vec![0; BLOCK * plan.len()];
     for (number, block) in (0u16..).zip(page.chunks_exact_mut(BLOCK)) {
         let record = random_record(rng, &plan, number);
@@ -260,13 +262,13 @@ pub fn random_page_of(rng: &mut Rng, count: usize) -> Vec<u8> {
     page
 }
 
-/// An accepted page of 1 to 64 blocks, of random spaces that nest as far as they may.
+/// An accepted page of 1 to `MOST_BLOCKS` blocks, of random spaces that nest as far as they may.
 pub fn random_page(rng: &mut Rng) -> Vec<u8> {
     let count = match rng.below(4) {
         0 => rng.below(3) + 1,
-        1 => rng.below(64) + 1,
+        1 => rng.below(MOST_BLOCKS) + 1,
         2 => rng.below(16) + 1,
-        _ => rng.pick(&[8, 63, 64], 64),
+        _ => rng.pick(&[8, MOST_BLOCKS - 1, MOST_BLOCKS], MOST_BLOCKS),
     };
     random_page_of(rng, count)
 }

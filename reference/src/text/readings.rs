@@ -2,14 +2,14 @@
 //! the request and clause 7.3. Where a text is refused, what stands before the place and what stands from there on are
 //! written apart, so that the place is the length of the first.
 
-use crate::block::{Body, Record, DEVICE_CMYK, DEVICE_GRAY, DEVICE_RGB};
+use crate::block::{Body, Record, BLOCK, DEVICE_CMYK, DEVICE_GRAY, DEVICE_RGB, MOST_BLOCKS};
 use crate::numbers::ONE;
 use crate::records::{
     cal_gray, cal_rgb, indexed_run, lab, named, page, record, separation, NINE, USUAL, WHITE,
 };
 
-/// Room for 64 blocks.
-const ROOM: usize = 64 * 512;
+/// Room for the most blocks.
+const ROOM: usize = MOST_BLOCKS * BLOCK;
 
 /// A line of the table.
 pub struct Line {
@@ -514,15 +514,17 @@ fn defaults() -> Vec<Line> {
 fn forbidden_nesting() -> Vec<Line> {
     let ink = format!("[/Separation/Ink/DeviceGray{FUNCTION}]");
     let many = |head: &str, count: usize| head.repeat(count);
-    let sixty_four = format!(
+    let inks = format!(
         "{}/DeviceGray{}",
-        many("[/Separation/A", 70),
-        many(&format!("{FUNCTION}]"), 64)
+        many("[/Separation/A", MOST_BLOCKS + 6),
+        many(&format!("{FUNCTION}]"), MOST_BLOCKS)
     );
-    let thirty_two = format!(
+    // An Indexed takes two blocks.
+    let half = MOST_BLOCKS / 2;
+    let tables = format!(
         "{}/DeviceGray{}",
         many("[/Indexed", 200),
-        many(" 0(a)]", 32)
+        many(" 0(a)]", half)
     );
     vec![
         late(
@@ -574,16 +576,21 @@ fn forbidden_nesting() -> Vec<Line> {
             "7 ",
         ),
         met(
-            "32 Indexed closed, and one more",
+            &format!("{half} Indexed closed, and one more"),
             15,
-            format!("{thirty_two} 0(a)"),
+            format!("{tables} 0(a)"),
             "] 0(a)]",
         ),
-        late("64 Separations closed, and no more", 12, &sixty_four, ""),
+        late(
+            &format!("{MOST_BLOCKS} Separations closed, and no more"),
+            12,
+            &inks,
+            "",
+        ),
         met(
-            "64 Separations closed, and one more",
+            &format!("{MOST_BLOCKS} Separations closed, and one more"),
             15,
-            format!("{sixty_four}{FUNCTION}"),
+            format!("{inks}{FUNCTION}"),
             "]",
         ),
         late("200 brackets", 12, many("[/Indexed", 200), ""),
@@ -1120,57 +1127,65 @@ fn lengths() -> Vec<Line> {
 fn blocks_and_room() -> Vec<Line> {
     let open = &GRAY[..GRAY.len() - 1];
     let grays = |count: usize| GRAY.repeat(count);
-    let records = |count: u16| (0..count).map(gray).collect::<Vec<_>>();
+    let records = |count: usize| (0..count as u16).map(gray).collect::<Vec<_>>();
     let large = format!("[/Indexed/DeviceCMYK 255<{}>", "61".repeat(1024));
-    let mut full = records(60);
-    full.extend(indexed_run(60, DEVICE_CMYK, 255, &[b'a'; 1024]));
+    let (most, more) = (MOST_BLOCKS, MOST_BLOCKS + 1);
+    // What leaves just room for the four blocks of the large palette, and what leaves one too few.
+    let (fitting, over) = (most - 4, most - 3);
+    let mut full = records(fitting);
+    full.extend(indexed_run(fitting as u16, DEVICE_CMYK, 255, &[b'a'; 1024]));
     let bad = "[/CalGray<</WhitePoint[1 .5 1]>>]";
     vec![
-        reads("64 blocks", grays(64), &records(64)),
+        reads(&format!("{most} blocks"), grays(most), &records(most)),
         reads(
-            "60 blocks and a run of four",
-            format!("{}{large}]", grays(60)),
+            &format!("{fitting} blocks and a run of four"),
+            format!("{}{large}]", grays(fitting)),
             &full,
         ),
-        met("65 blocks", 15, format!("{}{open}", grays(64)), "]"),
         met(
-            "65 blocks, more room",
+            &format!("{more} blocks"),
             15,
-            format!("{}{open}", grays(64)),
+            format!("{}{open}", grays(most)),
+            "]",
+        ),
+        met(
+            &format!("{more} blocks, more room"),
+            15,
+            format!("{}{open}", grays(most)),
             "]",
         )
         .within(2 * ROOM),
         met(
-            "65 blocks, a palette's among them",
+            &format!("{more} blocks, a palette's among them"),
             15,
-            format!("{}{large}", grays(61)),
+            format!("{}{large}", grays(over)),
             "]",
         ),
-        met("15 before 10", 15, format!("{}{large}", grays(61)), "]").within(61 * 512),
+        met("15 before 10", 15, format!("{}{large}", grays(over)), "]").within(over * BLOCK),
         met(
             "15 before judging's",
             15,
-            format!("{bad}{}{open}", grays(63)),
+            format!("{bad}{}{open}", grays(most - 1)),
             "]",
         ),
-        met("12 before 15", 12, format!("{}[/CalGray", grays(64)), "]"),
+        met("12 before 15", 12, format!("{}[/CalGray", grays(most)), "]"),
         met(
             "14 before 15",
             14,
-            format!("{}[/CalGray<<", grays(64)),
+            format!("{}[/CalGray<<", grays(most)),
             ">>]",
         ),
         met(
-            "64 blocks in room for 63",
+            &format!("{most} blocks in room for {}", most - 1),
             10,
-            format!("{}{open}", grays(63)),
+            format!("{}{open}", grays(most - 1)),
             "]",
         )
-        .within(63 * 512),
+        .within((most - 1) * BLOCK),
         met(
-            "64 blocks in a byte less",
+            &format!("{most} blocks in a byte less"),
             10,
-            format!("{}{open}", grays(63)),
+            format!("{}{open}", grays(most - 1)),
             "]",
         )
         .within(ROOM - 1),

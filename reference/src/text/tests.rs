@@ -2,7 +2,9 @@
 
 use super::generate::{damage_text, many_spaces, nested_text, random_text};
 use super::{read, read_at_most, MOST_BYTES};
-use crate::block::{read_block, Body, Record, BLOCK, DEVICE_CMYK, DEVICE_GRAY, DEVICE_RGB};
+use crate::block::{
+    read_block, Body, Record, BLOCK, DEVICE_CMYK, DEVICE_GRAY, DEVICE_RGB, MOST_BLOCKS,
+};
 use crate::generate::Rng;
 use crate::page::validate;
 
@@ -16,7 +18,7 @@ fn gray(entries: &str) -> String {
 
 /// The records of the blocks that a text is read into.
 fn records(text: &[u8]) -> Vec<Record> {
-    let page = read(text, 64).expect("the text is accepted");
+    let page = read(text, MOST_BLOCKS).expect("the text is accepted");
     page.chunks(BLOCK)
         .map(|block| read_block(block).expect("the block is accepted"))
         .collect()
@@ -28,7 +30,7 @@ fn first(text: &str) -> Body {
 
 /// The refusal of a text, and its place.
 fn refused(text: &[u8]) -> (u32, u64) {
-    read(text, 64).expect_err("the text is refused")
+    read(text, MOST_BLOCKS).expect_err("the text is refused")
 }
 
 /// Holds the refusal of a text to a number, at the first byte of a mark that stands in it once.
@@ -404,7 +406,7 @@ fn a_function_is_of_type_2_over_0_to_1() {
     }
     for two in ["2.000", "02.", "+2"] {
         let text = format!("[/Separation/Ink/DeviceGray<</FunctionType {two}/Domain[0 1]/N 1>>]");
-        assert!(read(text.as_bytes(), 64).is_ok(), "{two}");
+        assert!(read(text.as_bytes(), MOST_BLOCKS).is_ok(), "{two}");
     }
     refuses(&separation("/Domain[1 0]"), 12, "1 0");
     refuses(&separation("/Domain[0 7]"), 12, "7");
@@ -414,7 +416,7 @@ fn a_function_is_of_type_2_over_0_to_1() {
     refuses(&separation("/Domain[0 1 7]"), 12, "7");
     assert!(read(
         b"[/Separation/Ink/DeviceGray<</FunctionType 2/Domain[-0 1.0]/N 1>>]",
-        64
+        MOST_BLOCKS
     )
     .is_ok());
     for v in ["0", "5", "1.5", "-1", "4.000001"] {
@@ -502,7 +504,7 @@ fn nesting_that_the_clause_forbids_is_judgings_6() {
         refused(format!("[/Separation/Two{inner}{FUNCTION}]").as_bytes()),
         (6, 0)
     );
-    // deep nesting is read, up to the 65th block
+    // deep nesting is read, up to the first block too many
     let mut rng = Rng::new(3);
     let deep = nested_text(&mut rng, 5_000);
     assert_eq!(refused(&deep).0, 15);
@@ -513,20 +515,20 @@ fn the_first_byte_too_many_is_12_there() {
     assert_eq!(MOST_BYTES, 4_294_967_295);
     let text = gray("");
     let n = text.len() as u64;
-    assert!(read_at_most(text.as_bytes(), 64, n).is_ok());
+    assert!(read_at_most(text.as_bytes(), MOST_BLOCKS, n).is_ok());
     for most in 0..n {
         assert_eq!(
-            read_at_most(text.as_bytes(), 64, most),
+            read_at_most(text.as_bytes(), MOST_BLOCKS, most),
             Err((12, most)),
             "{most}"
         );
     }
     // before what it would end
-    assert_eq!(read_at_most(b"[/CalGra ", 64, 8), Err((12, 8)));
-    assert_eq!(read_at_most(b"[/CalGra ", 64, 9), Err((12, 1)));
-    assert_eq!(read_at_most(b"[/A#4 ", 64, 5), Err((12, 5)));
-    assert_eq!(read_at_most(b"[> ", 64, 2), Err((12, 2)));
-    assert_eq!(read_at_most(b"[] ", 64, 2), Err((12, 1)));
+    assert_eq!(read_at_most(b"[/CalGra ", MOST_BLOCKS, 8), Err((12, 8)));
+    assert_eq!(read_at_most(b"[/CalGra ", MOST_BLOCKS, 9), Err((12, 1)));
+    assert_eq!(read_at_most(b"[/A#4 ", MOST_BLOCKS, 5), Err((12, 5)));
+    assert_eq!(read_at_most(b"[> ", MOST_BLOCKS, 2), Err((12, 2)));
+    assert_eq!(read_at_most(b"[] ", MOST_BLOCKS, 2), Err((12, 1)));
 }
 
 #[test]
@@ -543,7 +545,11 @@ fn random_texts_are_answered_and_accepted_pages_are_pages() {
         for _ in 0..rng.below(3) {
             damage_text(&mut rng, &mut text);
         }
-        let room = if rng.once_in(10) { rng.below(4) } else { 64 };
+        let room = if rng.once_in(10) {
+            rng.below(4)
+        } else {
+            MOST_BLOCKS
+        };
         let number = match read(&text, room) {
             Ok(page) => {
                 assert_eq!(validate(&page), Ok(page.len() / BLOCK));
