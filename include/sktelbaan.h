@@ -29,8 +29,8 @@
 extern "C" {
 #endif
 
-/* The bytes of a block; a page has at most SKTELBAAN_MOST_BLOCKS of them. */
-enum { SKTELBAAN_BLOCK_BYTES = 512 };
+/* The bytes of a block, and of the longest page, which has SKTELBAAN_MOST_BLOCKS of them. */
+enum { SKTELBAAN_BLOCK_BYTES = 512, SKTELBAAN_PAGE_BYTES = SKTELBAAN_BLOCK_BYTES * SKTELBAAN_MOST_BLOCKS };
 
 /* The device spaces, by the numbers that they are asked for and referred to. */
 enum { SKTELBAAN_DEVICE_GRAY = 0xFF01, SKTELBAAN_DEVICE_RGB = 0xFF03, SKTELBAAN_DEVICE_CMYK = 0xFF04 };
@@ -111,28 +111,36 @@ uint64_t sktelbaan_write_block(const int32_t numbers[20], const uint8_t bytes[50
  * bytes are written. */
 uint64_t sktelbaan_read_block(const uint8_t *block, size_t block_len, int32_t numbers[20], uint8_t bytes[504]) SKTELBAAN_NEVER_NULL;
 
-/* The spaces that a text may have open and still return to, and the bytes of a name or palette that are kept of it. */
-enum { SKTELBAAN_TEXT_SPACES = SKTELBAAN_MOST_BLOCKS + 1, SKTELBAAN_TEXT_BYTES = 1024 };
+/* The lengths of what is lent for a text: the words of the state, the numbers of a dictionary, the bytes of a name or palette that are kept, the spaces that
+ * may be open and still be returned to, and the bytes of their names. */
+enum {
+    SKTELBAAN_TEXT_WORDS = 25,
+    SKTELBAAN_TEXT_VALUES = 30,
+    SKTELBAAN_TEXT_BYTES = 1024,
+    SKTELBAAN_TEXT_SPACES = SKTELBAAN_MOST_BLOCKS + 1,
+    SKTELBAAN_TEXT_NAME_BYTES = 128 * SKTELBAAN_TEXT_SPACES
+};
 
 /* Memory for reading a designer's text, lent to the three operations below from the first to the last. What is in it is theirs; whatever it is, it is
  * answered. */
 struct sktelbaan_text {
-    uint64_t words[25];
-    int32_t values[30];
+    uint64_t words[SKTELBAAN_TEXT_WORDS];
+    int32_t values[SKTELBAAN_TEXT_VALUES];
     uint8_t word[SKTELBAAN_TEXT_BYTES];
     uint32_t marks[SKTELBAAN_TEXT_SPACES];
-    uint8_t names[128 * SKTELBAAN_TEXT_SPACES];
+    uint8_t names[SKTELBAAN_TEXT_NAME_BYTES];
     uint32_t opens[SKTELBAAN_MOST_BLOCKS];
-    uint8_t blocks[SKTELBAAN_BLOCK_BYTES * SKTELBAAN_MOST_BLOCKS];
+    uint8_t blocks[SKTELBAAN_PAGE_BYTES];
 };
 
 /* The same by the arrays of that memory: for other languages. C uses the functions below, which take the memory as one. */
-uint64_t sktelbaan_begin_text(uint64_t words[25], int32_t values[30], const uint8_t *word, const uint32_t *marks, const uint8_t *names, const uint32_t *opens,
-                              const uint8_t *blocks) SKTELBAAN_NEVER_NULL;
-uint64_t sktelbaan_read_text(const uint8_t *text, size_t text_len, size_t room_len, uint64_t words[25], int32_t values[30], uint8_t *word, uint32_t *marks,
-                             uint8_t *names, uint32_t *opens, uint8_t *blocks) SKTELBAAN_NEVER_NULL;
-uint64_t sktelbaan_end_text(uint8_t *room, size_t room_len, uint64_t words[25], int32_t values[30], const uint8_t *word, uint32_t *marks, uint8_t *names,
-                            uint32_t *opens, uint8_t *blocks) SKTELBAAN_NEVER_NULL;
+uint64_t sktelbaan_begin_text(uint64_t words[SKTELBAAN_TEXT_WORDS], int32_t values[SKTELBAAN_TEXT_VALUES], const uint8_t *word, const uint32_t *marks,
+                              const uint8_t *names, const uint32_t *opens, const uint8_t *blocks) SKTELBAAN_NEVER_NULL;
+uint64_t sktelbaan_read_text(const uint8_t *text, size_t text_len, size_t room_len, uint64_t words[SKTELBAAN_TEXT_WORDS],
+                             int32_t values[SKTELBAAN_TEXT_VALUES], uint8_t *word, uint32_t *marks, uint8_t *names, uint32_t *opens,
+                             uint8_t *blocks) SKTELBAAN_NEVER_NULL;
+uint64_t sktelbaan_end_text(uint8_t *room, size_t room_len, uint64_t words[SKTELBAAN_TEXT_WORDS], int32_t values[SKTELBAAN_TEXT_VALUES],
+                            const uint8_t *word, uint32_t *marks, uint8_t *names, uint32_t *opens, uint8_t *blocks) SKTELBAAN_NEVER_NULL;
 
 /* Begins a designer's text. Gives 0. */
 static inline uint64_t sktelbaan_text_begin(struct sktelbaan_text *t) {

@@ -11,7 +11,7 @@
 #include "text.h"
 
 /* A page of the most bytes and one more, so that a longer file is refused for its length. */
-static uint8_t page[SKTELBAAN_MOST_BLOCKS * SKTELBAAN_BLOCK_BYTES + 1];
+static uint8_t page[SKTELBAAN_PAGE_BYTES + 1];
 static int32_t words[SKTELBAAN_MOST_WORDS];
 
 /* Opens a file, or ends the program. */

@@ -293,11 +293,11 @@ static void any_memory(void) {
             random = random * 6364136223846793005u + 1442695040888963407u;
             bytes[i] = round == 0 ? 0xff : (uint8_t)(random >> 56);
         }
-        for (int k = 0; k < 25 && round % 4 != 0; k++)
+        for (int k = 0; k < SKTELBAAN_TEXT_WORDS && round % 4 != 0; k++)
             t.words[k] %= k == 23 ? 1 : 16;
         if (round % 2 == 0)
             expect("a part of a text is read", sktelbaan_text_read(&t, (const uint8_t *)GRAY, strlen(GRAY), SKTELBAAN_BLOCK_BYTES) == 0);
-        end_text(&t, SKTELBAAN_MOST_BLOCKS * SKTELBAAN_BLOCK_BYTES);
+        end_text(&t, SKTELBAAN_PAGE_BYTES);
     }
 }
 

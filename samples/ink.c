@@ -8,7 +8,7 @@
 #include "sktelbaan.h"
 #include "text.h"
 
-enum { MOST_BYTES = SKTELBAAN_MOST_BLOCKS * SKTELBAAN_BLOCK_BYTES + 1 };
+enum { MOST_BYTES = SKTELBAAN_PAGE_BYTES + 1 };
 
 static const char *const pages[] = {"neither", "job", "house"};
 static uint8_t job[MOST_BYTES];

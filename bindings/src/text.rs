@@ -7,8 +7,13 @@ use crate::{meaning_of, raw, MOST_BLOCKS};
 /// The bytes of the longest page: a room of so many is always enough.
 pub const PAGE_BYTES: usize = MOST_BLOCKS * 512;
 
-/// The spaces that a text may have open and still return to.
+/// The lengths of what the library is lent: the words of its state, the numbers of a dictionary, the bytes
+/// of a name or palette, the spaces that may be open and still be returned to, the bytes of their names.
+const WORDS: usize = 25;
+const VALUES: usize = 30;
+const WORD_BYTES: usize = 1024;
 const SPACES: usize = MOST_BLOCKS + 1;
+const NAME_BYTES: usize = 128 * SPACES;
 
 /// Why a text is no page: a refusal, and the byte of the text that it is about, counted from 0.
 #[derive(Clone, Copy, Debug, PartialEq, Eq, Hash)]
@@ -30,11 +35,11 @@ impl std::error::Error for Unread {}
 
 /// The memory that the library is lent while it reads a text.
 struct Memory {
-    words: [u64; 25],
-    values: [i32; 30],
-    word: [u8; 1024],
+    words: [u64; WORDS],
+    values: [i32; VALUES],
+    word: [u8; WORD_BYTES],
     marks: [u32; SPACES],
-    names: [u8; 128 * SPACES],
+    names: [u8; NAME_BYTES],
     opens: [u32; MOST_BLOCKS],
     blocks: [u8; PAGE_BYTES],
 }
@@ -58,11 +63,11 @@ impl TextReader {
     /// Nothing is read yet.
     pub fn new(room: usize) -> Self {
         let mut memory = Box::new(Memory {
-            words: [0; 25],
-            values: [0; 30],
-            word: [0; 1024],
+            words: [0; WORDS],
+            values: [0; VALUES],
+            word: [0; WORD_BYTES],
             marks: [0; SPACES],
-            names: [0; 128 * SPACES],
+            names: [0; NAME_BYTES],
             opens: [0; MOST_BLOCKS],
             blocks: [0; PAGE_BYTES],
         });
