@@ -39,7 +39,7 @@ extern "C" {
 #define SKTELBAAN_VERSION "0.1.0"
 
 /* The most blocks of a page, and a number such as this as text. */
-#define SKTELBAAN_MOST_BLOCKS 64
+#define SKTELBAAN_MOST_BLOCKS 128
 #define SKTELBAAN_SPELLED(number) SKTELBAAN_AS_IT_STANDS(number)
 #define SKTELBAAN_AS_IT_STANDS(words) #words
 

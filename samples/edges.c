@@ -200,6 +200,14 @@ static void sizes(void) {
     uint64_t reply = sktelbaan_validate(page, sizeof page - SKTELBAAN_BLOCK_BYTES);
     expect("the most blocks", sktelbaan_refusal(reply) == SKTELBAAN_REFUSED_LAYOUT && sktelbaan_block(reply) == 1);
     expect("a block more", sktelbaan_validate(page, sizeof page) == SKTELBAAN_REFUSED_LENGTH);
+    static const uint8_t bytes[SKTELBAAN_RECORD_BYTES] = {0};
+    for (int32_t more = 0; more < 2; more++) {
+        const int32_t number = SKTELBAAN_MOST_BLOCKS - 1 + more;
+        const int32_t own[SKTELBAAN_RECORD_NUMBERS] = {number, SKTELBAAN_KIND_FREE};
+        const int32_t over[SKTELBAAN_RECORD_NUMBERS] = {0, SKTELBAAN_KIND_INDEXED, number};
+        expect("the last own number", sktelbaan_write_block(own, bytes, page, SKTELBAAN_BLOCK_BYTES) == (more ? SKTELBAAN_REFUSED_LAYOUT : 0));
+        expect("the last reference", sktelbaan_write_block(over, bytes, page, SKTELBAAN_BLOCK_BYTES) == (more ? SKTELBAAN_REFUSED_REFERENCE : 0));
+    }
 
     /* One component, limited to 0..0 again and again; then CalGray's closing step of four words, or a step more and Gray's of one. */
     words[0] = 1;
@@ -282,6 +290,19 @@ static void designers_texts(void) {
     }
 }
 
+/* A text of the most blocks is a page, and uses the memory that is lent to its end; with a space more it is refused at that one's bracket. */
+static void longest_text(void) {
+    static struct sktelbaan_text t;
+    const size_t room_len = SKTELBAAN_PAGE_BYTES;
+    for (uint32_t count = SKTELBAAN_MOST_BLOCKS; count <= SKTELBAAN_MOST_BLOCKS + 1; count++) {
+        expect("a long text begins", sktelbaan_text_begin(&t) == 0);
+        for (uint32_t i = 0; i < count; i++)
+            expect("a space of it is read", sktelbaan_text_read(&t, (const uint8_t *)GRAY, strlen(GRAY), room_len) == 0);
+        uint64_t whole = (uint64_t)count << 32, bracket = (uint64_t)(count * strlen(GRAY) - 1) << 32;
+        expect("a long text's reply", end_text(&t, room_len) == (count <= SKTELBAAN_MOST_BLOCKS ? whole : bracket | SKTELBAAN_REFUSED_TEXT_BLOCKS));
+    }
+}
+
 /* Memory that nobody wrote is answered, as it is and after a part of a text: of bytes FF, then of random ones. In most rounds its words are small, so that they
  * say where a reading stands, and word 23 is 0, so that nothing is refused yet. */
 static void any_memory(void) {
@@ -319,6 +340,7 @@ int main(void) {
     sizes();
     records();
     designers_texts();
+    longest_text();
     any_memory();
     version();
     return failed;

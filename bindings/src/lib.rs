@@ -39,7 +39,7 @@ pub use text::{TextReader, Unread, PAGE_BYTES};
 /// The most blocks of a page, as a literal, for the words of refusals.
 macro_rules! most_blocks {
     () => {
-        64
+        128
     };
 }
 

@@ -16,8 +16,8 @@ pub const BLOCK: usize = 512;
 pub const BODY: usize = 504;
 /// The bytes set aside for a Separation's name, the last of them always zero.
 pub const NAME: usize = 128;
-/// The most blocks that a page has.
-pub const MOST_BLOCKS: usize = 64;
+/// The most blocks that a page has: "the limit becomes 128 blocks, 65,536 bytes" (2026-09).
+pub const MOST_BLOCKS: usize = 128;
 
 /// The reference that means DeviceGray.
 pub const DEVICE_GRAY: u16 = 0xff01;
@@ -256,7 +256,8 @@ pub fn lay(record: &Record) -> [u8; BLOCK] {
     block
 }
 
-/// "Writing one block: 10, 3, 4, 5, then 6 for a reference that is neither a device code nor 0..63."
+/// "Writing one block: 10, 3, 4, 5, then 6 for a reference that is neither a device code nor" a block's number: "a single
+/// block's own number and reference go to 127" (2026-09).
 /// "A refusal alters no lent byte"; "a success alters the block".
 pub fn write_block(record: &Record, lent: &mut [u8]) -> Result<(), u32> {
     if lent.len() != BLOCK {

@@ -1,4 +1,4 @@
-//! A page of "1 to 64 blocks of 512 bytes": the spaces on it, and judging it.
+//! A page of 1 to 128 "blocks of 512 bytes" (2026-09): the spaces on it, and judging it.
 
 use crate::block::{
     check_holds, form_holds, Body, BLOCK, BODY, BODY_AT, DEVICE_CMYK, DEVICE_GRAY, DEVICE_RGB,
@@ -226,7 +226,7 @@ fn second_pass(page: &[u8], number: usize, block: &[u8; BLOCK]) -> Result<(), u3
 /// "Judging: 1; then blocks upward, 2 before 3; then blocks upward again, 4, 5, 6, 7. The first found is given with its
 /// block number." An accepted page gives its count of blocks.
 pub fn validate(page: &[u8]) -> Result<usize, (u32, u32)> {
-    // 1 is given when "the page's length is not 512 x (1..64)".
+    // 1 is given when "the page's length is not 512 x" 1..128: "refusals: 1, 6, 15 and the writer's 3 read with 128" (2026-09).
     let Some(count) = (1..=MOST_BLOCKS).find(|count| page.len() == BLOCK * count) else {
         return Err((1, 0));
     };

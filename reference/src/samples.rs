@@ -48,13 +48,13 @@ fn palette_bytes(count: usize) -> Vec<u8> {
     (0..count).map(|place| (place * 73 % 256) as u8).collect()
 }
 
-/// A page of the most blocks with every family, and Indexed spaces over every kind of base.
-fn full_page() -> Vec<u8> {
+/// A page of this many blocks with every family, and Indexed spaces over every kind of base.
+pub fn full_page(blocks: usize) -> Vec<u8> {
     let mut records: Vec<Record> = Vec::new();
     let mut turn = 0;
-    while records.len() < MOST_BLOCKS {
+    while records.len() < blocks {
         let at = records.len() as u16;
-        let left = MOST_BLOCKS - records.len();
+        let left = blocks - records.len();
         let gamma = i32::from(at % 4 + 1) * ONE;
         // The first four blocks are the bases of the spaces after them.
         let run = match turn % 12 {
@@ -146,7 +146,7 @@ pub fn all() -> Vec<Sample> {
         sample(
             "full",
             "As many blocks as a page has, with every family.",
-            full_page(),
+            full_page(MOST_BLOCKS),
         ),
         sample(
             "job",

@@ -267,7 +267,7 @@ impl Reader<'_> {
         self.brackets.len() as u16
     }
 
-    /// "15 more than 64 blocks, 10 more than the room lent": a space takes its block, "a palette run straight after its
+    /// "15 more than" 128 "blocks, 10 more than the room lent" (2026-03, 2026-09): a space takes its block, "a palette run straight after its
     /// own", both "at the ]".
     fn take_blocks(
         &mut self,

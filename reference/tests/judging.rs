@@ -157,7 +157,8 @@ fn random_pages_are_accepted_and_hold_every_family() {
     let mut rng = Rng::new(2);
     let mut seen = std::collections::HashMap::new();
     let mut sizes = std::collections::HashSet::new();
-    for _ in 0..1_500 {
+    // Enough for every size to come.
+    for _ in 0..40 * MOST_BLOCKS {
         let page = random_page(&mut rng);
         assert_eq!(validate(&page), Ok(page.len() / BLOCK));
         assert_eq!(slow(&page), Ok(page.len() / BLOCK));

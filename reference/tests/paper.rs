@@ -224,8 +224,11 @@ fn page_lengths() {
                 .collect::<Vec<_>>(),
         )
     };
+    // "128 blocks are judged and 129 are 1" (2026-09).
     assert_eq!(validate(&free(64)), Ok(64));
-    let mut long = free(64);
+    assert_eq!(validate(&free(65)), Ok(65));
+    assert_eq!(validate(&free(128)), Ok(128));
+    let mut long = free(128);
     long.extend([0; BLOCK]);
     assert_eq!(validate(&long), Err((1, 0)));
     assert_eq!(validate(&[]), Err((1, 0)));

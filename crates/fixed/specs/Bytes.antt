@@ -10,7 +10,7 @@ use mir.Val.{toZ, ofZ}
 
 -- the most blocks of a page
 abbrev pub blocks : ℕ
-blocks = 64
+blocks = 128
 
 -- a reference is a block number, or FF01, FF03, FF04 for DeviceGray, RGB, CMYK
 abbrev pub grayCode : ℕ

@@ -44,4 +44,4 @@ pub const VALUES: usize = 4;
 pub const TENTHS: u32 = 40;
 
 // The most blocks of a page.
-pub const BLOCKS: u32 = 64;
+pub const BLOCKS: u32 = 128;

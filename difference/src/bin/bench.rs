@@ -3,7 +3,7 @@
 //! rounds, after a warm-up.
 
 use difference::fast;
-use reference::block::{DEVICE_CMYK, DEVICE_GRAY, DEVICE_RGB};
+use reference::block::{BLOCK, DEVICE_CMYK, DEVICE_GRAY, DEVICE_RGB};
 use reference::generate::Rng;
 use reference::numbers::ONE;
 use reference::records::{cal_gray, cal_rgb, free, indexed_run, lab, page, separation, USUAL};
@@ -128,33 +128,51 @@ fn sum_of_words(bytes: &[u8]) -> u64 {
     words.fold(0, |sum, word| sum.wrapping_add(u64::from_le_bytes(*word)))
 }
 
-/// Validation of a full page, in bytes a second.
-fn validation(full: &[u8]) {
-    /// Bytes in a nanosecond, thousands of millions in a second.
-    fn speed<T>(bytes: &[u8], work: impl Fn(&[u8]) -> T) -> f64 {
-        const TIMES: usize = 16;
-        let time = least(|| {
-            for _ in 0..TIMES {
-                black_box(&work(black_box(bytes)));
-            }
-        });
-        (TIMES * bytes.len()) as f64 / time
+/// Bytes in a nanosecond, thousands of millions in a second.
+fn speed<T>(bytes: &[u8], work: impl Fn(&[u8]) -> T) -> f64 {
+    const TIMES: usize = 16;
+    let time = least(|| {
+        for _ in 0..TIMES {
+            black_box(&work(black_box(bytes)));
+        }
+    });
+    (TIMES * bytes.len()) as f64 / time
+}
+
+/// Validation of pages with spaces, in nanoseconds and in bytes a second, a column for each page.
+fn validation(pages: &[Vec<u8>]) {
+    let counts = pages.iter().map(|page| page.len() / BLOCK);
+    let frees: Vec<Vec<u8>> = counts
+        .clone()
+        .map(|count| page(&(0..count as u16).map(free).collect::<Vec<_>>()))
+        .collect();
+    for page in pages.iter().chain(&frees) {
+        assert!(sktelbaan::validate(page).is_ok());
     }
-    assert!(sktelbaan::validate(full).is_ok());
-    println!("| {} bytes, {MOST_BLOCKS} blocks | GB/s |", full.len());
-    println!("|---|---|");
-    println!("| `validate` | {:.2} |", speed(full, sktelbaan::validate));
-    let rival = speed(full, fast::validate);
-    println!("| the fast rival | {rival:.2} |");
-    let plain = speed(full, reference::page::validate);
-    println!("| the plain reference | {plain:.2} |");
-    let free = page(&(0..MOST_BLOCKS as u16).map(free).collect::<Vec<_>>());
-    assert!(sktelbaan::validate(&free).is_ok());
-    let empty = speed(&free, sktelbaan::validate);
-    println!("| `validate`, {MOST_BLOCKS} free blocks | {empty:.2} |");
-    println!("| the sum of the bytes | {:.2} |", speed(full, sum));
-    let words = speed(full, sum_of_words);
-    println!("| the sum of the bytes, eight at a time | {words:.2} |");
+    let heads: Vec<String> = counts.map(|count| format!(" {count} blocks |")).collect();
+    println!("| GB/s |{}", heads.concat());
+    println!("|---|{}", "---|".repeat(pages.len()));
+    let row = |name: &str, pages: &[Vec<u8>], figure: &dyn Fn(&[u8]) -> f64, digits: usize| {
+        let figures = pages.iter().map(|page| figure(page));
+        let cells: Vec<String> = figures.map(|v| format!(" {v:.digits$} |")).collect();
+        println!("| {name} |{}", cells.concat());
+    };
+    let ours = |page: &[u8]| speed(page, sktelbaan::validate);
+    row("`validate`", pages, &ours, 2);
+    let time = |page: &[u8]| page.len() as f64 / ours(page);
+    row("`validate`, ns for the page", pages, &time, 0);
+    row(
+        "the fast rival",
+        pages,
+        &|page| speed(page, fast::validate),
+        2,
+    );
+    let plain = |page: &[u8]| speed(page, reference::page::validate);
+    row("the plain reference", pages, &plain, 2);
+    row("`validate`, free blocks alone", &frees, &ours, 2);
+    row("the sum of the bytes", pages, &|page| speed(page, sum), 2);
+    let words = |page: &[u8]| speed(page, sum_of_words);
+    row("the sum of the bytes, eight at a time", pages, &words, 2);
 }
 
 /// The nanoseconds of one colour.
@@ -197,8 +215,8 @@ fn runs() {
     }
 }
 
-/// Colours on pages: on as few blocks as the space needs, and on a full page.
-fn evaluations(full: &[u8]) {
+/// Colours on pages: on as few blocks as the space needs, and on pages of many.
+fn evaluations(pages: &[Vec<u8>]) {
     println!("| ns per colour | blocks | `evaluate` | the fast rival | the plain reference |");
     println!("|---|---|---|---|---|");
     let row = |name: &str, page: &[u8], number, colours: &Colours| {
@@ -213,7 +231,7 @@ fn evaluations(full: &[u8]) {
         let plain = per_colour(colours, |colour| {
             reference::colour::evaluate(black_box(page), number, colour)
         });
-        let blocks = page.len() / 512;
+        let blocks = page.len() / BLOCK;
         println!("| {name} | {blocks} | {ours:.0} | {rival:.0} | {plain:.0} |");
     };
     for space in spaces().iter().filter(|space| space.page.len() == 512) {
@@ -222,15 +240,18 @@ fn evaluations(full: &[u8]) {
     }
     let unit = (0, ONE);
     let lightness = (0, 100 * ONE);
-    for (name, number, ranges) in [
+    let asked = [
         ("RGB", u32::from(DEVICE_RGB), vec![unit; 3]),
         ("CalGray", 0, vec![unit]),
         ("CalRGB", 1, vec![unit; 3]),
         ("Lab", 2, vec![lightness, (-ONE, ONE), (-ONE, ONE)]),
         ("Separation over Lab", 3, vec![unit]),
         ("Indexed over Gray", 4, vec![(0, 255 * ONE)]),
-    ] {
-        row(name, full, number, &Colours::new(&ranges, 16));
+    ];
+    for page in pages {
+        for (name, number, ranges) in &asked {
+            row(name, page, *number, &Colours::new(ranges, 16));
+        }
     }
 }
 
@@ -394,14 +415,13 @@ mod lcms {
 }
 
 fn main() {
-    let samples = reference::samples::all();
-    let full = samples.into_iter().find(|sample| sample.name == "full");
-    let full = full.expect("a full page is among the samples").page;
-    validation(&full);
+    // A page of half the most blocks, and `samples/full.page`.
+    let pages = [MOST_BLOCKS / 2, MOST_BLOCKS].map(reference::samples::full_page);
+    validation(&pages);
     println!();
     runs();
     println!();
-    evaluations(&full);
+    evaluations(&pages);
     println!();
     palettes();
     println!();

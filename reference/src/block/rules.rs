@@ -93,7 +93,7 @@ impl Body {
         }
     }
 
-    /// "Then 6 for a reference that is neither a device code nor 0..63."
+    /// "Then 6 for a reference that is neither a device code nor" 0..127: "own number and reference go to 127" (2026-09).
     fn reference_holds(&self) -> bool {
         let within = |reference| is_device(reference) || usize::from(reference) < MOST_BLOCKS;
         self.reference().is_none_or(within)
@@ -101,8 +101,8 @@ impl Body {
 }
 
 impl Record {
-    /// What refusal 3 looks at in a record to be written: "an own number above 63 is 3", the name, and that no place
-    /// for bytes is filled that the kind does not use.
+    /// What refusal 3 looks at in a record to be written: an own number above 127 is 3 (2026-09), the name, and that no
+    /// place for bytes is filled that the kind does not use.
     fn form_holds(&self) -> bool {
         let (name, rest) = self.bytes.split_at(NAME);
         let bytes_hold = match self.body {

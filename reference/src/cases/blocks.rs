@@ -13,8 +13,8 @@ use crate::records::{
 const ENDS: [i32; 2] = [i32::MIN, i32::MAX];
 
 /// The references that stand on either side of the line.
-const REFERENCES: [u16; 11] = [
-    0, LAST, MOST, 0x0100, 0xff00, 0xff01, 0xff02, 0xff03, 0xff04, 0xff05, 0xffff,
+const REFERENCES: [u16; 12] = [
+    0, 64, LAST, MOST, 0x0100, 0xff00, 0xff01, 0xff02, 0xff03, 0xff04, 0xff05, 0xffff,
 ];
 
 /// A CalGray, a CalRGB and a Lab with these points, by their names.
@@ -95,7 +95,7 @@ pub(super) fn cases() -> Vec<Case> {
 fn own_numbers(maker: &mut Maker) {
     maker.both("free block 5 has check 5 and 2525", &free(5));
     maker.both("free block 0", &free(0));
-    for number in [LAST, MOST, 256, 0xffff] {
+    for number in [64, LAST, MOST, 256, 0xffff] {
         maker.both(&format!("free block {number}"), &free(number));
     }
     for number in [LAST, MOST] {

@@ -25,6 +25,7 @@ pub(super) fn cases() -> Vec<Case> {
     indices(&mut maker);
     palettes(&mut maker);
     tints(&mut maker);
+    last_block(&mut maker);
     refused_colours(&mut maker);
     maker.cases
 }
@@ -323,6 +324,18 @@ pub(super) fn mixed() -> Vec<u8> {
     records.extend(indexed_run(2, DEVICE_GRAY, 1, &[1, 2]));
     records.push(lab(4, USUAL));
     page(&records)
+}
+
+/// A space in the last block that a page has, and one in the first over it.
+fn last_block(maker: &mut Maker) {
+    let mut records = vec![separation(0, LAST, 1, [0; 4], [ONE, 0, 0, 0])];
+    records.extend((1..LAST).map(free));
+    records.push(cal_gray(LAST, 2 * ONE));
+    let page = page(&records);
+    let label = format!("a colour of block {LAST}");
+    maker.colour(&label, &page, u32::from(LAST), &[HALF]);
+    let label = format!("a colour over block {LAST}");
+    maker.colour(&label, &page, 0, &[HALF]);
 }
 
 /// Refusals of a colour.

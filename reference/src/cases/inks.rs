@@ -2,6 +2,7 @@
 
 use super::format::Case;
 use super::maker::Maker;
+use super::pages::LAST;
 use crate::block::{lay, Record, BLOCK, DEVICE_GRAY};
 use crate::records::{changed, free, indexed_run, named, page, separation};
 
@@ -46,6 +47,10 @@ fn which_block(maker: &mut Maker) {
     maker.ink("an ink on the house page alone", &job, &house, b"Varnish");
     maker.ink("the pages exchanged", &house, &job, b"Gold");
     maker.ink("one page as both", &house, &house, b"Varnish");
+    let mut far: Vec<Record> = (0..LAST).map(free).collect();
+    far.push(ink(LAST, b"Far"));
+    let label = format!("an ink in block {LAST}");
+    maker.ink(&label, &page(&far), &house, b"Far");
 }
 
 /// Names that are there, and names that nearly are.

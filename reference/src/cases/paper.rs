@@ -87,6 +87,7 @@ fn limits(maker: &mut Maker) {
     let (most, more) = (MOST_BLOCKS, MOST_BLOCKS + 1);
     maker.validate(&format!("{most} blocks are judged"), &all_free(most));
     maker.validate(&format!("{more} blocks give 1"), &all_free(more));
+    maker.validate("65 blocks are judged", &all_free(65));
     maker.validate("amin = amax is fine", &page(&[lab(0, [5, 5, 0, 1])]));
 }
 

@@ -200,15 +200,22 @@ fn group_replies_worked_by_hand() {
         (21, "CalGray gamma 0 gives 4, written", "refused 4 kept"),
         (21, "CalRGB gamma 0 gives 5, written", "refused 5 kept"),
         (21, "hival 256 gives 4, written", "refused 4 kept"),
-        (20, "Indexed base 63, read", "1 4 63 9"),
-        (20, "Indexed base 64, read", "refused 6"),
+        (20, "free block 127, read", "127 0"),
+        (20, "free block 128, read", "refused 3"),
+        (21, "free block 128, written", "refused 3 kept"),
+        (20, "Indexed base 64, read", "1 4 64 9"),
+        (20, "Indexed base 127, read", "1 4 127 9"),
+        (20, "Indexed base 128, read", "refused 6"),
+        (21, "Indexed base 128, written", "refused 6 kept"),
         (
             20,
             "FFFF stored where the sum's check 0 is due",
             "refused 2",
         ),
-        (30, "65 blocks give 1", "refused 1 block 0"),
-        (30, "64 blocks are judged", "accepted"),
+        (30, "129 blocks give 1", "refused 1 block 0"),
+        (30, "128 blocks are judged", "accepted"),
+        (30, "128 blocks and a byte", "refused 1 block 0"),
+        (30, "65 blocks are judged", "accepted"),
         (
             30,
             "a fault for 7 in block 1 and one for 2 in block 3",
@@ -240,10 +247,10 @@ fn group_replies_worked_by_hand() {
             "a reference to a block that is faulty",
             "refused 5 block 1",
         ),
-        (30, "a reference from block 0 to block 63", "accepted"),
+        (30, "a reference from block 0 to block 127", "accepted"),
         (
             30,
-            "a reference from block 0 to block 64 of 64",
+            "a reference from block 0 to block 128 of 128",
             "refused 6 block 0",
         ),
         (
@@ -619,7 +626,7 @@ fn lines_have_the_agreed_form() {
     assert_eq!(case.output_line(), "a label: -246");
     assert!(input_text(&all()).contains("limit -1 to 0..10: 1 -1 0 10\n"));
     assert!(output_text(&all()).contains("limit -1 to 0..10: 0\n"));
-    assert_eq!(reply_text(&Err((7, 63))), "refused 7 block 63");
+    assert_eq!(reply_text(&Err((7, 127))), "refused 7 block 127");
     let answer = Answer::Gray(1.0);
     for (moved, text) in [
         (false, "Gray 3ff0000000000000"),

@@ -445,15 +445,15 @@ fn hival_and_palette() {
 }
 
 #[test]
-fn more_than_64_blocks_is_15_and_more_than_the_room_10() {
+fn more_than_128_blocks_is_15_and_more_than_the_room_10() {
     let mut rng = Rng::new(7);
-    let at_64 = many_spaces(&mut rng, 64);
-    assert_eq!(records(&at_64).len(), 64);
-    let at_65 = many_spaces(&mut rng, 65);
+    let at_128 = many_spaces(&mut rng, 128);
+    assert_eq!(records(&at_128).len(), 128);
+    let at_129 = many_spaces(&mut rng, 129);
     let last = |text: &[u8]| text.iter().rposition(|b| *b == b']').expect("a bracket") as u64;
-    assert_eq!(read(&at_65, 100), Err((15, last(&at_65))));
-    assert_eq!(read(&at_65, 64), Err((15, last(&at_65))));
-    assert_eq!(read(&at_64, 63), Err((10, last(&at_64))));
+    assert_eq!(read(&at_129, 200), Err((15, last(&at_129))));
+    assert_eq!(read(&at_129, 128), Err((15, last(&at_129))));
+    assert_eq!(read(&at_128, 127), Err((10, last(&at_128))));
     let one = indexed("0(a)");
     assert_eq!(read(one.as_bytes(), 1), Err((10, one.len() as u64 - 1)));
     assert_eq!(
@@ -468,9 +468,9 @@ fn more_than_64_blocks_is_15_and_more_than_the_room_10() {
         Err((10, gray("").len() as u64 - 1))
     );
     // a palette of three blocks that the page has no room for
-    let mut text = many_spaces(&mut rng, 61);
+    let mut text = many_spaces(&mut rng, 125);
     text.extend_from_slice(format!("[/Indexed/DeviceCMYK 255<{}>]", "00".repeat(1024)).as_bytes());
-    assert_eq!(read(&text, 64), Err((15, text.len() as u64 - 1)));
+    assert_eq!(read(&text, 128), Err((15, text.len() as u64 - 1)));
 }
 
 #[test]
