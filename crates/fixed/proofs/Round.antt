@@ -16,20 +16,20 @@ module _ (h : ℕ) {z : ℤ} {n k : ℕ} (e : Diff z n k) where
   pub mid : k ≤ n → n ≤ k + h → Picks (n - k) false
   unfolding limited outside
   mid p q =
-      let low = lt-no e (of-pos 0) (omega arith) in
-      let high = lt-no (of-pos h) e (omega arith) in
-      (simp (low, high) (sym (pos-at e p)), simp (low, high))
+      let under = lt-no e (of-pos 0) (omega arith) in
+      let above = lt-no (of-pos h) e (omega arith) in
+      (simp (under, above) (sym (pos-at e p)), simp (under, above))
 
   pub high : k + h < n → Picks h true
   unfolding limited outside
   high q =
-      let low = lt-no e (of-pos 0) (omega arith) in
-      let high = lt-yes (of-pos h) e (omega arith) in
-      (simp (low, high), simp (low, high))
+      let under = lt-no e (of-pos 0) (omega arith) in
+      let above = lt-yes (of-pos h) e (omega arith) in
+      (simp (under, above), simp (under, above))
 
   pub low : n < k → Picks 0 true
   unfolding limited outside
-  low p = let low = lt-yes e (of-pos 0) (omega arith) in (simp low, simp low)
+  low p = let under = lt-yes e (of-pos 0) (omega arith) in (simp under, simp under)
 
 -- half of a half: the code adds 500000 and divides by 1000000
 pub halves : (m : ℕ) → (2 * m + 1000000) / 2000000 ≡ (m + 500000) / 1000000

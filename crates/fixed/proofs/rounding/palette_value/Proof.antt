@@ -33,37 +33,37 @@ shared-slice-read-result c = search needs
 
 -- what is known where the table has the byte, and the range is 0..1
 module _ (c : tie.After-shared-slice-known2) where
-  abbrev b : ℕ
-  b = c .before .before .before .before .before .args .b
+  abbrev entry : tie.Start
+  entry = c .before .before .before .before .before
 
   abbrev read : ℕ
-  read = getD (c .before .before .before .before .before .args .table .now) b 0
+  read = getD (entry .args .table .now) (entry .args .b) 0
 
-  is : pos read ≡ paletteValue b (pos 0) (pos 1000000)
+  is : pos read ≡ paletteValue (entry .args .b) (pos 0) (pos 1000000)
   unfolding OverOne
-  is = c .before .before .before .before .before .pre .1 b (c .before .before .before .if1 .taken)
+  is = entry .pre .1 (entry .args .b) (c .before .before .before .if1 .taken)
 
   small : read ≤ 1000000
-  small = at-most-one b read (c .before .before .before .before .before .pre .0) is
+  small = at-most-one (entry .args .b) read (entry .pre .0) is
 
 cast-result : tie.Need-cast-result
 cast-result c = record { sfits = omega (arith, small c) }
 
 returns : tie.Need-returns
 returns c =
-    let entry = c .before .before .before .before .before in
-    let low : entry .args .lo ≡ pos 0 = sym (toZ-ofZ w32 _ (entry .fits .lo)) ∙ ap (toZ w32) (c .before .before .if2 .taken) in
-    let high : entry .args .hi ≡ pos 1000000 = sym (toZ-ofZ w32 _ (entry .fits .hi)) ∙ ap (toZ w32) (c .before .if3 .taken) in
-    toZ-pos w32 (read c) (omega (arith, small c)) ∙ is c ∙ (λ i. paletteValue (entry .args .b) (sym low i) (sym high i))
+    let start = entry c in
+    let low : start .args .lo ≡ pos 0 = sym (toZ-ofZ w32 _ (start .fits .lo)) ∙ ap (toZ w32) (c .before .before .if2 .taken) in
+    let high : start .args .hi ≡ pos 1000000 = sym (toZ-ofZ w32 _ (start .fits .hi)) ∙ ap (toZ w32) (c .before .if3 .taken) in
+    toZ-pos w32 (read c) (omega (arith, small c)) ∙ is c ∙ (λ i. paletteValue (start .args .b) (sym low i) (sym high i))
 
 part-way-requires : tie.Need-part-way-requires
 part-way-requires c κs = search needs
 
 returns-2 : tie.Need-returns-2
 returns-2 c =
-    let entry = c .before .before .before in
-    let s = entry .fits in
-    search needs ∙ simp (toZ-ofZ w32 _ (s .lo), toZ-ofZ w32 _ (s .hi)) at (c .part-way .ensures) ∙ sym (palette-half-up (entry .args .b) (entry .args .lo) (entry .args .hi))
+    let start = c .before .before .before in
+    let s = start .fits in
+    search needs ∙ simp (toZ-ofZ w32 _ (s .lo), toZ-ofZ w32 _ (s .hi)) at (c .part-way .ensures) ∙ sym (palette-half-up (start .args .b) (start .args .lo) (start .args .hi))
 
 pub palette-value-spec : {M : Type 1} → statement M
 palette-value-spec =

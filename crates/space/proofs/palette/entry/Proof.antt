@@ -1,6 +1,5 @@
 -- `entry`: its palette byte over the range of its component.
 use mathlib.Core.Path.{_∙_}
-use Rattle.fixed.specs.Values.{value}
 use Rattle.fixed.proofs.Signs.{signed-within, signed-is}
 use Rattle.space.proofs.Ends.{entry-is}
 use borrow.Author.Needs.{needs}
@@ -34,7 +33,7 @@ returns c =
     signed-is _ (c .palette-value .ok)
     (c .palette-value .ensures ∙
     entry-is _ _ (a .j) r (a .k) (entry .pre .1) at _ _ _ (after-palette-byte .palette-byte .ensures .0)
-    (signed-within (value (a .t5) (a .k)) (c .before .before .palette-value-arg .given)) (signed-within (value (a .t6) (a .k)) (c .before .palette-value-arg2 .given)))
+    (signed-within _ (c .before .before .palette-value-arg .given)) (signed-within _ (c .before .palette-value-arg2 .given)))
 
 pub entry-spec : {M : Type 1} → statement M
 entry-spec =
