@@ -1,6 +1,4 @@
 -- Laws that several proofs cite, here and in the crates above.
-pub mod Tables
-pub mod Classes
 pub mod Ranges
 pub mod Values
 pub mod Findings

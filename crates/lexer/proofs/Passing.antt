@@ -12,7 +12,8 @@ use Rattle.lexer.specs.Moves.{more, isGap, begun, inText, ended, joined}
 use Rattle.lexer.specs.declared.types.Mode.{Mode}
 use Rattle.lexer.specs.declared.types.Mode.the-variants.{Gap, Comment, Regular, Name, Hash, HashDigit, Less, Greater, Hex, HexDigit, Text, Return, Escape, Octal, Octals}
 use Rattle.lexer.specs.declared.types.Number.{Number}
-use Rattle.lexer.specs.Scans.{Word, Scan, bound, after, begunWord, placed, endedScan, endedMet, joinedScan, joinedMet, isNothing, grown, isPlain, isRegular, isSpelled, plainScan, found}
+use Rattle.lexer.specs.declared.types.Lexer.{Lexer}
+use Rattle.lexer.specs.Scans.{Word, Scan, bound, after, begunWord, placed, endedScan, endedMet, joinedScan, joinedMet, isNothing, grown, isPlain, isRegular, isSpelled, plainScan, found, scanAt}
 use Rattle.lexer.proofs.Findings.{found-turn}
 
 -- white space is no byte that is not
@@ -90,3 +91,11 @@ pub pass-spelled : (s : Scan) (b : ℕ) → isGap (s .mode) ≡ false → isRegu
     → _≡_ {A = Scan} (record { mode = s .mode; number = s .number; word = grown (s .word) b; seen = more (s .seen); first = s .first }) (plainScan s b)
 unfolding plainScan
 pass-spelled s b g r p = rw (g, r, p)
+
+-- a mode that stays, and is copied once
+module _ (t : Lexer) (m : Mode) (e : t .mode ≡ m) where
+  pub plain-in : (b : ℕ) → isPlain m b ≡ true → isPlain (t .mode) b ≡ true
+  plain-in b h = ap (λ (k : Mode). isPlain k b) e ∙ h
+
+  pub found-in : (word rest : List ℕ) → found (scanAt (record { mode = m; number = t .number; size = t .size; seen = t .seen; first = t .first }) word) rest ≡ found (scanAt t word) rest
+  found-in word rest = ap (λ (k : Mode). found (scanAt (record { mode = k; number = t .number; size = t .size; seen = t .seen; first = t .first }) word) rest) (sym e)

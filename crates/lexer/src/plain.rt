@@ -86,7 +86,8 @@ fn is_spelled(m: Mode) -> bool
 // What a plain byte does.
 fn pass(l: Lexer, word: &mut [u8], b: u8) -> Lexer
     requires { ⌜ length (now word) ≡ longest ⌝ }
-    ensures { λ r. ⌜ scanAt r (now (word .exit)) ≡ plainScan (scanAt l (now (word .entry))) b ⌝ }
+    ensures is { λ r. ⌜ scanAt r (now (word .exit)) ≡ plainScan (scanAt l (now (word .entry))) b ⌝ }
+    ensures stays { λ r. ⌜ r .mode ≡ l .mode ⌝ }
 {
     let m = l.mode;
     let n = l.number;
@@ -127,23 +128,64 @@ fn pass(l: Lexer, word: &mut [u8], b: u8) -> Lexer
     }
 }
 
-// Passes over the plain bytes from `from` on.
-pub fn skip(l: Lexer, word: &mut [u8], text: &[u8], from: usize) -> Skipped
+// Passes over the plain bytes from `from` on. The mode stays, so it is copied once and not for each byte.
+fn skip(l: Lexer, word: &mut [u8], text: &[u8], from: usize) -> Skipped
     requires { ⌜ length (now word) ≡ longest ⌝ }
     ensures is { λ r. ⌜ found (scanAt (r .lexer) (now (word .exit))) (drop (r .at) (now (text .entry))) ≡ found (scanAt l (now (word .entry))) (drop from (now (text .entry))) ⌝ }
     ensures on { λ r. ⌜ from ≤ r .at ⌝ }
 {
+    let m = l.mode;
     let mut s = l;
     let mut i = from;
     while i < text.len() {
         let b = text[i];
-        let m = s.mode;
         if !is_plain(m, b) | (BOUND <= s.seen) {
             return Skipped { lexer: s, at: i };
         }
         i += 1;
         let t = pass(s, word, b);
-        s = t;
+        let n = t.number;
+        s = Lexer {
+            mode: m,
+            number: n,
+            size: t.size,
+            seen: t.seen,
+            first: t.first,
+        };
     }
     Skipped { lexer: s, at: i }
+}
+
+// Whether there are bytes that are plain in a mode.
+fn has_plain(m: Mode) -> bool {
+    match m {
+        Mode::Gap => true,
+        Mode::Comment => true,
+        Mode::Regular => true,
+        Mode::Name => true,
+        Mode::Hash => false,
+        Mode::HashDigit(_) => false,
+        Mode::Less => false,
+        Mode::Greater => false,
+        Mode::Hex => false,
+        Mode::HexDigit(_) => false,
+        Mode::Text(_) => true,
+        Mode::Return(_) => false,
+        Mode::Escape(_) => false,
+        Mode::Octal(_, _) => false,
+        Mode::Octals(_, _) => false,
+    }
+}
+
+// The same, without a look where there are none.
+pub fn pass_over(l: Lexer, word: &mut [u8], text: &[u8], from: usize) -> Skipped
+    requires { ⌜ length (now word) ≡ longest ⌝ }
+    ensures is { λ r. ⌜ found (scanAt (r .lexer) (now (word .exit))) (drop (r .at) (now (text .entry))) ≡ found (scanAt l (now (word .entry))) (drop from (now (text .entry))) ⌝ }
+    ensures on { λ r. ⌜ from ≤ r .at ⌝ }
+{
+    let m = l.mode;
+    if has_plain(m) {
+        return skip(l, word, text, from);
+    }
+    Skipped { lexer: l, at: from }
 }

@@ -1,15 +1,19 @@
--- The table's class is 0 just for regular characters.
-use Rattle.lexer.proofs.Classes.{classes, class-regular}
+-- A byte is regular where it is of neither table.
+use mathlib.Core.Bool.{not, _||_}
+use Rattle.lexer.specs.Chars.{regular}
 use borrow.Author.Needs.{needs}
 use Rattle.lexer.proofs.chars.is_regular.Statement.{statement}
 use Rattle.lexer.proofs.chars.is_regular.Tie as tie
 
-array-read-result : tie.Need-array-read-result
-array-read-result c = search needs
+is-white-requires : tie.Need-is-white-requires
+is-white-requires c κs = search needs
+
+is-delimiter-requires : tie.Need-is-delimiter-requires
+is-delimiter-requires c κs = search needs
 
 returns : tie.Need-returns
-unfolding classes
-returns c = class-regular (c .args .b) (search needs)
+unfolding regular
+returns c = λ i. not (c .before .is-white .ensures i || c .is-delimiter .ensures i)
 
 pub is-regular-spec : {M : Type 1} → statement M
-is-regular-spec = tie.close (tie.spec array-read-result returns)
+is-regular-spec = tie.close (tie.spec is-white-requires is-delimiter-requires returns)

@@ -1,15 +1,13 @@
--- The table's class is 1 just for white space.
-use Rattle.lexer.proofs.Classes.{classes, class-white}
+-- The six tests are the table's entries.
+use mathlib.Core.Bool.{or-false}
+use Rattle.lexer.specs.Chars.{white}
 use borrow.Author.Needs.{needs}
 use Rattle.lexer.proofs.chars.is_white.Statement.{statement}
 use Rattle.lexer.proofs.chars.is_white.Tie as tie
 
-array-read-result : tie.Need-array-read-result
-array-read-result c = search needs
-
 returns : tie.Need-returns
-unfolding classes
-returns c = class-white (c .args .b) (search needs)
+unfolding white
+returns c = rw or-false
 
 pub is-white-spec : {M : Type 1} → statement M
-is-white-spec = tie.close (tie.spec array-read-result returns)
+is-white-spec = tie.close (tie.spec returns)

@@ -1,5 +1,5 @@
 -- `pass`: between tokens, in a number or keyword, in a name or string, or in a comment.
-use mathlib.Core.Path.{sym, _∙_}
+use mathlib.Core.Path.{refl, sym, _∙_}
 use denote.Ref.{now}
 use Rattle.lexer.specs.Scans.{plainScan, scanAt}
 use Rattle.lexer.proofs.Findings.{noted}
@@ -21,7 +21,7 @@ returns : tie.Need-returns
 unfolding plainScan
 returns c =
     let at-is-gap = c .before .before .before in
-    simp (sym (at-is-gap .is-gap .ensures) ∙ c .before .before .if1 .taken, c .before .no-number .ensures, c .deeper .ensures)
+    (simp (sym (at-is-gap .is-gap .ensures) ∙ c .before .before .if1 .taken, c .before .no-number .ensures, c .deeper .ensures), refl)
 
 is-figures-requires : tie.Need-is-figures-requires
 is-figures-requires c κs = search needs
@@ -38,7 +38,7 @@ returns-2 c =
     let at-is-figures = c .before .before .before in
     let at-if1 = at-is-figures .before in
     let at-is-gap = at-if1 .before in
-    simp (sym (at-is-gap .is-gap .ensures) ∙ at-if1 .if1 .left, sym (at-is-figures .is-figures .ensures) ∙ c .before .before .if2 .taken, c .before .with-figure .ensures, c .deeper2 .ensures)
+    (simp (sym (at-is-gap .is-gap .ensures) ∙ at-if1 .if1 .left, sym (at-is-figures .is-figures .ensures) ∙ c .before .before .if2 .taken, c .before .with-figure .ensures, c .deeper2 .ensures), refl)
 
 is-spelled-requires : tie.Need-is-spelled-requires
 is-spelled-requires c κs = search needs
@@ -66,9 +66,11 @@ returns-3 c =
     let at-is-gap = at-if1 .before in
     let start = at-is-gap .before .before .before in
     let l = start .args .l in
-    let w = noted (now (start .args .word)) (l .size) _ (start .pre) (at-note .note .ensures) (c .before .deeper3 .ensures) in
-    (λ i. record { mode = l .mode; number = l .number; word = w i; seen = c .deeper4 .ensures i; first = l .first })
-    ∙ pass-spelled (scanAt l (now (start .args .word))) (start .args .b) (sym (at-is-gap .is-gap .ensures) ∙ at-if1 .if1 .left) (sym (at-is-figures .is-figures .ensures) ∙ at-if2 .if2 .left) (sym (at-is-spelled .is-spelled .ensures) ∙ at-if3 .if3 .taken)
+    let w = noted (now (start .args .word)) (l .size) _ (start .pre) (at-note .note .ensures) (c .before .deeper3 .ensures) in (
+      (λ i. record { mode = l .mode; number = l .number; word = w i; seen = c .deeper4 .ensures i; first = l .first })
+          ∙ pass-spelled (scanAt l (now (start .args .word))) (start .args .b) (sym (at-is-gap .is-gap .ensures) ∙ at-if1 .if1 .left) (sym (at-is-figures .is-figures .ensures) ∙ at-if2 .if2 .left) (sym (at-is-spelled .is-spelled .ensures) ∙ at-if3 .if3 .taken),
+      refl,
+    )
 
 deeper-requires-5 : tie.Need-deeper-requires-5
 deeper-requires-5 c κs = search needs
@@ -80,7 +82,7 @@ returns-4 c =
     let at-is-figures = at-if2 .before in
     let at-if1 = at-is-figures .before in
     let at-is-gap = at-if1 .before in
-    simp (sym (at-is-gap .is-gap .ensures) ∙ at-if1 .if1 .left, sym (at-is-figures .is-figures .ensures) ∙ at-if2 .if2 .left, sym (c .before .before .is-spelled .ensures) ∙ c .before .if3 .left, c .deeper5 .ensures)
+    (simp (sym (at-is-gap .is-gap .ensures) ∙ at-if1 .if1 .left, sym (at-is-figures .is-figures .ensures) ∙ at-if2 .if2 .left, sym (c .before .before .is-spelled .ensures) ∙ c .before .if3 .left, c .deeper5 .ensures), refl)
 
 pub pass-spec : {M : Type 1} → statement M
 pass-spec =

@@ -89,8 +89,8 @@ returns-3 c =
     found-met _ _ _ (loop-test .taken) (if1 .left) _ _ _ (end-byte .ensures .0) (end-byte .ensures .1) (is-nothing .ensures) (not-false _
     (if2 .left)) _ _ _ (join-byte .ensures .0) (join-byte .ensures .1) (is-nothing2 .ensures) (not-true _ (c .if3 .taken)) ∙ loop .inv .1
 
-skip-requires : tie.Need-skip-requires Inv-loop μ-loop
-skip-requires c κs =
+pass-over-requires : tie.Need-pass-over-requires Inv-loop μ-loop
+pass-over-requires c κs =
     let after-before = c .before .before .before .before in
     let at-word2 = after-before .before in
     let at-word = at-word2 .before .before .before .before .before .before .before in
@@ -100,14 +100,14 @@ skip-requires c κs =
 loop-less : tie.Need-loop-less Inv-loop μ-loop
 loop-less c =
     let after-before = c .before .before in
-    let at-skip = after-before .before in
-    let at-loop-test = at-skip .before .before .before .before .before .before .before .before .before .before .before .before .before .before .before .before .before .before .before in
-    omega (arith, at-skip .skip .ensures .1, at-loop-test .loop-test .taken)
+    let at-pass-over = after-before .before in
+    let at-loop-test = at-pass-over .before .before .before .before .before .before .before .before .before .before .before .before .before .before .before .before .before .before .before in
+    omega (arith, at-pass-over .pass-over .ensures .1, at-loop-test .loop-test .taken)
 
 loop-again : tie.Need-loop-again Inv-loop μ-loop
 loop-again c =
-    let at-skip = c .before .before .before in
-    let at-if3 = at-skip .before .before in
+    let at-pass-over = c .before .before .before in
+    let at-if3 = at-pass-over .before .before in
     let at-is-nothing2 = at-if3 .before in
     let at-word2 = at-is-nothing2 .before .before .before in
     let at-join-byte = at-word2 .before in
@@ -119,7 +119,7 @@ loop-again c =
     let at-loop-test = at-if1 .before .before in
     let at-loop = at-loop-test .before in (
       c .before .before .word3 .given ∙ at-word2 .word2 .given ∙ at-word .word .given ∙ at-loop .loop .inv .0,
-      at-skip .skip .ensures .0
+      at-pass-over .pass-over .ensures .0
           ∙ found-turn _ _ _ (at-loop-test .loop-test .taken) (at-if1 .if1 .left) _ _ _ (at-end-byte .end-byte .ensures .0) (at-end-byte .end-byte .ensures .1) (at-is-nothing .is-nothing .ensures) (not-false _ (at-if2 .if2 .left)) _ _ _ (at-join-byte .join-byte .ensures .0) (at-join-byte .join-byte .ensures .1) (at-is-nothing2 .is-nothing2 .ensures) (not-false _ (at-if3 .if3 .left))
           ∙ at-loop .loop .inv .1,
     )
@@ -149,7 +149,7 @@ look-spec =
     is-nothing-requires-2
     same-length-3
     returns-3
-    skip-requires
+    pass-over-requires
     loop-less
     loop-again
     same-length-4
