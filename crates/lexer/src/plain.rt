@@ -129,7 +129,7 @@ fn pass(l: Lexer, word: &mut [u8], b: u8) -> Lexer
 }
 
 // Passes over the plain bytes from `from` on. The mode stays, so it is copied once and not for each byte.
-fn skip(l: Lexer, word: &mut [u8], text: &[u8], from: usize) -> Skipped
+pub fn skip(l: Lexer, word: &mut [u8], text: &[u8], from: usize) -> Skipped
     requires { ⌜ length (now word) ≡ longest ⌝ }
     ensures is { λ r. ⌜ found (scanAt (r .lexer) (now (word .exit))) (drop (r .at) (now (text .entry))) ≡ found (scanAt l (now (word .entry))) (drop from (now (text .entry))) ⌝ }
     ensures on { λ r. ⌜ from ≤ r .at ⌝ }
@@ -156,8 +156,8 @@ fn skip(l: Lexer, word: &mut [u8], text: &[u8], from: usize) -> Skipped
     Skipped { lexer: s, at: i }
 }
 
-// Whether there are bytes that are plain in a mode.
-fn has_plain(m: Mode) -> bool {
+// Whether there are bytes that are plain in a mode: where there are none, nothing is to be passed over.
+pub fn has_plain(m: Mode) -> bool {
     match m {
         Mode::Gap => true,
         Mode::Comment => true,
@@ -175,17 +175,4 @@ fn has_plain(m: Mode) -> bool {
         Mode::Octal(_, _) => false,
         Mode::Octals(_, _) => false,
     }
-}
-
-// The same, without a look where there are none.
-pub fn pass_over(l: Lexer, word: &mut [u8], text: &[u8], from: usize) -> Skipped
-    requires { ⌜ length (now word) ≡ longest ⌝ }
-    ensures is { λ r. ⌜ found (scanAt (r .lexer) (now (word .exit))) (drop (r .at) (now (text .entry))) ≡ found (scanAt l (now (word .entry))) (drop from (now (text .entry))) ⌝ }
-    ensures on { λ r. ⌜ from ≤ r .at ⌝ }
-{
-    let m = l.mode;
-    if has_plain(m) {
-        return skip(l, word, text, from);
-    }
-    Skipped { lexer: l, at: from }
 }

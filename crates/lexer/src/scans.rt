@@ -11,7 +11,8 @@ use crate::moves::deeper;
 use crate::moves::is_gap;
 use crate::numbers::no_number;
 use crate::numbers::with_figure;
-use crate::plain::pass_over;
+use crate::plain::has_plain;
+use crate::plain::skip;
 use crate::types::Event;
 use crate::types::Found;
 use crate::types::Lexed;
@@ -213,10 +214,15 @@ fn look(l: Lexer, word: &mut [u8], text: &[u8], from: usize) -> Found
                 at: i,
             };
         }
-        let r = pass_over(h, word, text, i);
-        let next = r.lexer;
-        s = next;
-        i = r.at;
+        let m = h.mode;
+        if has_plain(m) {
+            let r = skip(h, word, text, i);
+            let next = r.lexer;
+            s = next;
+            i = r.at;
+        } else {
+            s = h;
+        }
     }
     Found {
         lexer: s,
@@ -230,7 +236,7 @@ pub fn find(l: Lexer, word: &mut [u8], text: &[u8], from: usize) -> Found
     requires { ⌜ length (now word) ≡ longest ⌝ }
     ensures { λ r. ⌜ foundAt r (now (word .exit)) (now (text .entry)) ≡ found (scanAt l (now (word .entry))) (drop from (now (text .entry))) ⌝ }
 {
-    let r = pass_over(l, word, text, from);
+    let r = skip(l, word, text, from);
     let s = r.lexer;
     let i = r.at;
     look(s, word, text, i)

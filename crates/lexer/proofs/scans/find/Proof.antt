@@ -4,8 +4,8 @@ use borrow.Author.Needs.{needs}
 use Rattle.lexer.proofs.scans.find.Statement.{statement}
 use Rattle.lexer.proofs.scans.find.Tie as tie
 
-pass-over-requires : tie.Need-pass-over-requires
-pass-over-requires c κs = search needs
+skip-requires : tie.Need-skip-requires
+skip-requires c κs = search needs
 
 look-requires : tie.Need-look-requires
 look-requires c κs =
@@ -23,8 +23,8 @@ returns : tie.Need-returns
 returns c =
     let after-look = c .before .before in
     let after-before = after-look .before .before .before .before in
-    let at-pass-over = after-before .before in
-    after-look .look .ensures ∙ at-pass-over .pass-over .ensures .0
+    let at-skip = after-before .before in
+    after-look .look .ensures ∙ at-skip .skip .ensures .0
 
 pub find-spec : {M : Type 1} → statement M
-find-spec = tie.close (tie.spec pass-over-requires look-requires same-length returns)
+find-spec = tie.close (tie.spec skip-requires look-requires same-length returns)

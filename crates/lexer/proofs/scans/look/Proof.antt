@@ -89,25 +89,34 @@ returns-3 c =
     found-met _ _ _ (loop-test .taken) (if1 .left) _ _ _ (end-byte .ensures .0) (end-byte .ensures .1) (is-nothing .ensures) (not-false _
     (if2 .left)) _ _ _ (join-byte .ensures .0) (join-byte .ensures .1) (is-nothing2 .ensures) (not-true _ (c .if3 .taken)) ∙ loop .inv .1
 
-pass-over-requires : tie.Need-pass-over-requires Inv-loop μ-loop
-pass-over-requires c κs =
-    let after-before = c .before .before .before .before in
-    let at-word2 = after-before .before in
-    let at-word = at-word2 .before .before .before .before .before .before .before in
-    let at-loop = at-word .before .before .before .before .before .before .before in
-    at-word2 .word2 .given ∙ at-word .word .given ∙ at-loop .loop .inv .0
+has-plain-requires : tie.Need-has-plain-requires Inv-loop μ-loop
+has-plain-requires c κs = tt
+
+skip-requires : tie.Need-skip-requires Inv-loop μ-loop
+skip-requires c κs =
+    let at-if3 = c .before .before .before in
+    let at-word2 = at-if3 .before .before .before .before in
+    let at-if2 = at-word2 .before .before .before in
+    let at-word = at-if2 .before .before .before .before in
+    let at-if1 = at-word .before .before .before .before in
+    let at-loop-test = at-if1 .before .before in
+    at-word2 .word2 .given ∙ at-word .word .given ∙ at-loop-test .before .loop .inv .0
 
 loop-less : tie.Need-loop-less Inv-loop μ-loop
 loop-less c =
-    let after-before = c .before .before in
-    let at-pass-over = after-before .before in
-    let at-loop-test = at-pass-over .before .before .before .before .before .before .before .before .before .before .before .before .before .before .before .before .before .before .before in
-    omega (arith, at-pass-over .pass-over .ensures .1, at-loop-test .loop-test .taken)
+    let at-skip = c .before .before .before in
+    let at-if3 = at-skip .before .before .before .before in
+    let at-word2 = at-if3 .before .before .before .before in
+    let at-if2 = at-word2 .before .before .before in
+    let at-word = at-if2 .before .before .before .before in
+    let at-if1 = at-word .before .before .before .before in
+    let at-loop-test = at-if1 .before .before in
+    omega (arith, at-skip .skip .ensures .1, at-loop-test .loop-test .taken)
 
 loop-again : tie.Need-loop-again Inv-loop μ-loop
 loop-again c =
-    let at-pass-over = c .before .before .before in
-    let at-if3 = at-pass-over .before .before in
+    let at-skip = c .before .before .before in
+    let at-if3 = at-skip .before .before .before .before in
     let at-is-nothing2 = at-if3 .before in
     let at-word2 = at-is-nothing2 .before .before .before in
     let at-join-byte = at-word2 .before in
@@ -119,9 +128,34 @@ loop-again c =
     let at-loop-test = at-if1 .before .before in
     let at-loop = at-loop-test .before in (
       c .before .before .word3 .given ∙ at-word2 .word2 .given ∙ at-word .word .given ∙ at-loop .loop .inv .0,
-      at-pass-over .pass-over .ensures .0
-          ∙ found-turn _ _ _ (at-loop-test .loop-test .taken) (at-if1 .if1 .left) _ _ _ (at-end-byte .end-byte .ensures .0) (at-end-byte .end-byte .ensures .1) (at-is-nothing .is-nothing .ensures) (not-false _ (at-if2 .if2 .left)) _ _ _ (at-join-byte .join-byte .ensures .0) (at-join-byte .join-byte .ensures .1) (at-is-nothing2 .is-nothing2 .ensures) (not-false _ (at-if3 .if3 .left))
-          ∙ at-loop .loop .inv .1,
+      at-skip .skip .ensures .0 ∙ found-turn _ _ _ (at-loop-test .loop-test .taken) (at-if1 .if1 .left) _ _ _ (at-end-byte .end-byte .ensures .0) (at-end-byte .end-byte .ensures .1) (at-is-nothing .is-nothing .ensures) (not-false _ (at-if2 .if2 .left)) _ _ _ (at-join-byte .join-byte .ensures .0) (at-join-byte .join-byte .ensures .1) (at-is-nothing2 .is-nothing2 .ensures) (not-false _ (at-if3 .if3 .left)) ∙ at-loop .loop .inv .1,
+    )
+
+loop-less-2 : tie.Need-loop-less-2 Inv-loop μ-loop
+loop-less-2 c =
+    let at-if3 = c .before .before in
+    let at-word2 = at-if3 .before .before .before .before in
+    let at-if2 = at-word2 .before .before .before in
+    let at-word = at-if2 .before .before .before .before in
+    let at-if1 = at-word .before .before .before .before in
+    let at-loop-test = at-if1 .before .before in
+    omega (arith, at-loop-test .loop-test .taken)
+
+loop-again-2 : tie.Need-loop-again-2 Inv-loop μ-loop
+loop-again-2 c =
+    let at-if3 = c .before .before in
+    let at-is-nothing2 = at-if3 .before in
+    let at-word2 = at-is-nothing2 .before .before .before in
+    let at-join-byte = at-word2 .before in
+    let at-if2 = at-join-byte .before .before in
+    let at-is-nothing = at-if2 .before in
+    let at-word = at-is-nothing .before .before .before in
+    let at-end-byte = at-word .before in
+    let at-if1 = at-end-byte .before .before .before in
+    let at-loop-test = at-if1 .before .before in
+    let at-loop = at-loop-test .before in (
+      at-word2 .word2 .given ∙ at-word .word .given ∙ at-loop .loop .inv .0,
+      found-turn _ _ _ (at-loop-test .loop-test .taken) (at-if1 .if1 .left) _ _ _ (at-end-byte .end-byte .ensures .0) (at-end-byte .end-byte .ensures .1) (at-is-nothing .is-nothing .ensures) (not-false _ (at-if2 .if2 .left)) _ _ _ (at-join-byte .join-byte .ensures .0) (at-join-byte .join-byte .ensures .1) (at-is-nothing2 .is-nothing2 .ensures) (not-false _ (at-if3 .if3 .left)) ∙ at-loop .loop .inv .1,
     )
 
 same-length-4 : tie.Need-same-length-4 Inv-loop μ-loop
@@ -149,8 +183,11 @@ look-spec =
     is-nothing-requires-2
     same-length-3
     returns-3
-    pass-over-requires
+    has-plain-requires
+    skip-requires
     loop-less
     loop-again
+    loop-less-2
+    loop-again-2
     same-length-4
     returns-4)
