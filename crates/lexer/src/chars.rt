@@ -15,11 +15,12 @@ pub fn is_white(b: u8) -> bool
 pub fn is_delimiter(b: u8) -> bool
     ensures { λ r. ⌜ r ≡ delimiter b ⌝ }
 {
-    let slash = (b == 47) | (b == 37);
-    let brace = (b == 123) | ((b == 125) | slash);
-    let bracket = (b == 91) | ((b == 93) | brace);
-    let angle = (b == 60) | ((b == 62) | bracket);
-    (b == 40) | ((b == 41) | angle)
+    (b == 40)
+        | ((b == 41)
+            | ((b == 60)
+                | ((b == 62)
+                    | ((b == 91)
+                        | ((b == 93) | ((b == 123) | ((b == 125) | ((b == 47) | (b == 37)))))))))
 }
 
 // Whether a byte is a regular character.

@@ -156,7 +156,7 @@ pub fn skip(l: Lexer, word: &mut [u8], text: &[u8], from: usize) -> Skipped
     Skipped { lexer: s, at: i }
 }
 
-// Whether there are bytes that are plain in a mode: where there are none, nothing is to be passed over.
+// Whether there are bytes that are plain in a mode. It spares a look where there are none, and what is found does not depend on it.
 pub fn has_plain(m: Mode) -> bool {
     match m {
         Mode::Gap => true,
