@@ -18,7 +18,8 @@ use crate::steps::rgb;
 use crate::steps::white;
 use fixed::float_of;
 
-fn close_gray(k: GrayClosing, a: i32) -> Xyz
+// The point that CalGray gives of its one component.
+pub fn close_gray(k: GrayClosing, a: i32) -> Xyz
     ensures { λ r. ⌜ r ≡ calGrayOf k a ⌝ }
 {
     gray(white(k.xw, k.zw), decode(a, k.gamma))

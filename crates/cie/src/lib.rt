@@ -6,6 +6,7 @@ mod steps;
 mod tenths;
 
 pub use closings::close;
+pub use closings::close_gray;
 pub use lab_step::lab;
 pub use steps::decode;
 pub use steps::gray;

@@ -1,0 +1,82 @@
+-- A closing step of one component answers what `closedBy` has for it, its value read back; any other what `close` promises of the first four values.
+use mathlib.Core.Path.{ap, _∙_}
+use mathlib.Core.List.{[], _∷_}
+use Rattle.fixed.specs.Numbers.{float}
+use Rattle.fixed.specs.Values.{value}
+use Rattle.fixed.proofs.Signs.{signed-within}
+use Rattle.cie.specs.declared.Xyz.{Xyz}
+use Rattle.cie.specs.Answers.{answer, inGray}
+use Rattle.cie.specs.Closings.{closedBy, inThree, calGrayOf}
+use Rattle.cie.proofs.Closes.{closes}
+use borrow.Author.Needs.{needs}
+use Rattle.runner.proofs.ending.close_colour.Statement.{statement}
+use Rattle.runner.proofs.ending.close_colour.Tie as tie
+
+array-copy-out-a : tie.Need-array-copy-out-a
+array-copy-out-a c = search needs
+
+enum-told : tie.Need-enum-told
+enum-told c = search needs
+
+float-of-requires : tie.Need-float-of-requires
+float-of-requires c κs = search needs
+
+enum-known-k : tie.Need-enum-known-k
+enum-known-k c = search needs
+
+close-gray-requires : tie.Need-close-gray-requires
+close-gray-requires c κs = search needs
+
+array-copy-out-close : tie.Need-array-copy-out-close
+array-copy-out-close c = search needs
+
+array-copy-out-close-2 : tie.Need-array-copy-out-close-2
+array-copy-out-close-2 c = search needs
+
+array-copy-out-close-3 : tie.Need-array-copy-out-close-3
+array-copy-out-close-3 c = search needs
+
+close-requires : tie.Need-close-requires
+close-requires c κs = search needs
+
+returns : tie.Need-returns
+unfolding closedBy
+returns c =
+    let after-a = c .before .before .before in
+    let v = after-a .before .before .args .c in
+    rw (c .before .enum-told .given .1)
+    (λ i. answer inGray ((c .float-of .ensures ∙ ap float (signed-within (value (v .values) 0) (after-a .a .given))) i ∷ []) (v .moved))
+
+returns-2 : tie.Need-returns-2
+unfolding closedBy
+returns-2 c =
+    let after-k = c .before .before in
+    let after-a = after-k .before .before in
+    let v = after-a .before .before .args .c in
+    rw (after-k .k .given .1)
+    (ap (λ (p : Xyz). inThree p (v .moved)) (c .close-gray .ensures ∙ (λ i. calGrayOf (after-k .k .given .0 .0) (signed-within (value (v .values) 0) (after-a .a .given) i))))
+
+returns-3 : tie.Need-returns-3
+returns-3 c =
+    let after-close-arg3 = c .before in
+    let after-close-arg2 = after-close-arg3 .before in
+    let after-close-arg = after-close-arg2 .before in
+    c .close .ensures _
+    ∙ closes _ _ _ (signed-within _ (after-close-arg .before .before .a .given)) (signed-within _ (after-close-arg .close-arg .given)) (signed-within _ (after-close-arg2 .close-arg2 .given)) (signed-within _ (after-close-arg3 .close-arg3 .given))
+
+pub close-colour-spec : {M : Type 1} → statement M
+close-colour-spec =
+    tie.close
+    (tie.spec
+    array-copy-out-a
+    enum-told
+    float-of-requires
+    enum-known-k
+    close-gray-requires
+    array-copy-out-close
+    array-copy-out-close-2
+    array-copy-out-close-3
+    close-requires
+    returns
+    returns-2
+    returns-3)
