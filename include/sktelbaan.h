@@ -1,8 +1,8 @@
 /* Sktelbaan: colour-space records of PDF (ISO 32000-1, clause 8.6).
  *
- * A page is 1 to SKTELBAAN_MOST_BLOCKS blocks of 512 bytes, each with the record of a colour space, a part of a palette, or nothing. Here are all operations:
- * validating a page, evaluating a colour of one of its spaces, writing the recipe of a space, running a recipe, asking for an ink by its name, writing and
- * reading a block by itself, reading a designer's text into a page. Link libsktelbaan.a.
+ * A page is 1 to SKTELBAAN_MOST_BLOCKS blocks of 512 bytes, each with the record of a colour space, a part of a palette or of a program, or nothing. Here are
+ * all operations: validating a page, evaluating a colour of one of its spaces, writing the recipe of a space, running a recipe, asking for an ink by its name,
+ * writing and reading a block by itself, reading a designer's text into a page. Link libsktelbaan.a.
  *
  * How a reply is read, what may be passed and what a caller owes is told in sktelbaan_runner.h, with the refusals.
  *
@@ -35,21 +35,21 @@ enum { SKTELBAAN_BLOCK_BYTES = 512, SKTELBAAN_PAGE_BYTES = SKTELBAAN_BLOCK_BYTES
 /* The device spaces, by the numbers that they are asked for and referred to. */
 enum { SKTELBAAN_DEVICE_GRAY = 0xFF01, SKTELBAAN_DEVICE_RGB = 0xFF03, SKTELBAAN_DEVICE_CMYK = 0xFF04 };
 
-/* Validates a page. Refuses with 1 to 7. Gives 0. */
+/* Validates a page. Refuses with 1 to 7, 16 and 17. Gives 0. */
 uint64_t sktelbaan_validate(const uint8_t *page, size_t page_len) SKTELBAAN_NEVER_NULL;
 
-/* Evaluates a colour of the space at a number of a page, a block's number or a device code. Refuses with 1 to 9. Gives what the answer is in, and puts its
- * floats, as many as sktelbaan_floats says, in order, from the first of `floats` on; those beyond stay as they were. sktelbaan_moved tells whether the colour
- * was pulled in. */
+/* Evaluates a colour of the space at a number of a page, a block's number or a device code. Refuses as sktelbaan_validate does, then with 8, then 9. Gives
+ * what the answer is in, and puts its floats, as many as sktelbaan_floats says, in order, from the first of `floats` on; those beyond stay as they were.
+ * sktelbaan_moved tells whether the colour was pulled in. */
 uint64_t sktelbaan_evaluate(const uint8_t *page, size_t page_len, uint32_t number, const int32_t *components, size_t count, double floats[4]) SKTELBAAN_NEVER_NULL;
 
-/* Writes the recipe of the space at a number of a page. Refuses with 1 to 8, then 10; SKTELBAAN_MOST_WORDS words are always enough. Gives how many words the
- * recipe is, from the first of `words` on; those beyond stay as they were. */
+/* Writes the recipe of the space at a number of a page. Refuses as sktelbaan_validate does, then with 8, then 10; SKTELBAAN_MOST_WORDS words are always
+ * enough. Gives how many words the recipe is, from the first of `words` on; those beyond stay as they were. */
 uint64_t sktelbaan_write_recipe(const uint8_t *page, size_t page_len, uint32_t number, int32_t *words, size_t words_len) SKTELBAAN_NEVER_NULL;
 
-/* Asks for an ink, a Separation, by its name, of two pages: the job's page and the house page. Refuses with 1 to 7 of the job's page, then of the house page, then
- * with 8 where neither has an ink of that name. Gives the page and the block that it was found in: the lowest block of the job's page that has the name, else
- * the lowest of the house page. `name` is compared byte by byte, with its length, and may be any bytes.
+/* Asks for an ink, a Separation, by its name, of two pages: the job's page and the house page. Refuses the job's page as sktelbaan_validate does, then the
+ * house page, then with 8 where neither has an ink of that name. Gives the page and the block that it was found in: the lowest block of the job's page that
+ * has the name, else the lowest of the house page. `name` is compared byte by byte, with its length, and may be any bytes.
  *
  * The reply is read by sktelbaan_refusal, and then by sktelbaan_ink_page and sktelbaan_ink_block, whether it was found or refused: these two take the place of
  * sktelbaan_value and sktelbaan_block here, since a page and a block share the reply's high half. `place` says where the name stands on its page: place[0] bytes
@@ -86,7 +86,8 @@ enum sktelbaan_kinds {
     SKTELBAAN_KIND_LAB = 3,
     SKTELBAAN_KIND_INDEXED = 4,
     SKTELBAAN_KIND_SEPARATION = 5,
-    SKTELBAAN_KIND_PALETTE = 6
+    SKTELBAAN_KIND_PALETTE = 6,
+    SKTELBAAN_KIND_PROGRAM = 7
 };
 
 /* A record is 20 numbers and 504 bytes. Number [0] is the block's own number on its page, [1] its kind, and from [2] on, the others being 0:
@@ -98,8 +99,10 @@ enum sktelbaan_kinds {
  *     Separation    alternate, exponent, length of the name, C0 (four), C1 (four)
  *
  * Base and alternate are a block's number or a device code. They, hival, the exponent and the length count units; the others are in millionths, so a gamma
- * of 1.8 is 1800000.
- * The bytes are a Separation's name in the first 127, or a part of a palette in all 504; the others are 0. */
+ * of 1.8 is 1800000. An exponent of 0 means that a program makes the alternate's components of the tint: its text lies in one to four blocks of kind
+ * SKTELBAAN_KIND_PROGRAM straight after the Separation's, and C0 and C1 are then 0.
+ * The bytes are a Separation's name in the first 127, or a part of a palette or of a program's text in all 504; the others are 0. A program block by itself may
+ * hold any bytes: its program is looked at on its page. */
 enum { SKTELBAAN_RECORD_NUMBERS = 20, SKTELBAAN_RECORD_BYTES = 504 };
 
 /* Writes a record as a block, with its check; `block_len` is 512. Refuses with the first that applies of 10, 3, 4, 5, 6. Gives 0. A number of

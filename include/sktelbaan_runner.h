@@ -69,12 +69,14 @@ enum sktelbaan_refusals {
     /* A number is none that PDF allows: white X or Z not above 0 or white Y not 1, a black point below 0, a CalGray gamma not above 0, a range whose low
      * end is above its high end, or hival above 255. */
     SKTELBAAN_REFUSED_NUMBER = 4,
-    /* A gamma or an exponent is none that is carried here: a gamma not 0.1 to 4.0 in whole tenths, an exponent not 1 to 4. */
+    /* A gamma or an exponent is none that is carried here: a gamma not 0.1 to 4.0 in whole tenths, an exponent not 1 to 4, nor 0 for a program. */
     SKTELBAAN_REFUSED_POWER = 5,
     /* A reference is neither a device code nor a block of the page, or the block is of a kind that may not be used there. */
     SKTELBAAN_REFUSED_REFERENCE = 6,
     /* An Indexed space has too few palette blocks straight after it, or its palette's spare bytes are not zero; a palette block belongs to no Indexed space;
-     * or C0 or C1 of a Separation has a number other than 0 beyond what its alternate space has components. */
+     * a Separation with exponent 0 has no program block straight after it, or its program's blocks are not filled with text up to a first zero and zeros
+     * after that, or one of them is all zeros; a program block belongs to no such Separation, or is the fifth after it; or C0 or C1 of a Separation has a
+     * number other than 0 beyond what its alternate space has components, or beside a program any at all. */
     SKTELBAAN_REFUSED_PALETTE = 7,
     /* The number asked for is neither a device code nor a block that holds a space, kinds 1 to 5; or, of an ink asked for by its name, neither page has one. */
     SKTELBAAN_REFUSED_SPACE = 8,
@@ -82,7 +84,7 @@ enum sktelbaan_refusals {
     SKTELBAAN_REFUSED_COUNT = 9,
     /* Fewer words were lent than the recipe has, or a block was not lent as 512 bytes. */
     SKTELBAAN_REFUSED_ROOM = 10,
-    /* The words are not a recipe: how many components it takes, steps, one closing step and nothing more, 1045 words at most. */
+    /* The words are not a recipe: how many components it takes, steps, one closing step and nothing more, SKTELBAAN_MOST_WORDS words at most. */
     SKTELBAAN_REFUSED_RECIPE = 11,
     /* A designer's text has bad syntax, no space, or an entry of the wrong form or length, or it is unfinished; or it has more than 4,294,967,295 bytes. */
     SKTELBAAN_REFUSED_TEXT_SYNTAX = 12,
@@ -91,7 +93,13 @@ enum sktelbaan_refusals {
     /* A key of it is missing, doubled or unknown. */
     SKTELBAAN_REFUSED_TEXT_KEY = 14,
     /* Its spaces take more than SKTELBAAN_MOST_BLOCKS blocks. */
-    SKTELBAAN_REFUSED_TEXT_BLOCKS = 15
+    SKTELBAAN_REFUSED_TEXT_BLOCKS = 15,
+    /* A Separation's program has a token that is unknown, a number that is too large or has more than six digits after the point, more than 400 tokens, or
+     * braces that do not nest: more than 8 deep, without their partner, or without if or ifelse straight after them. */
+    SKTELBAAN_REFUSED_PROGRAM_SYNTAX = 16,
+    /* Its stack goes below 0 or past 100, is not the same after both branches, or does not end with as many numbers as the alternate space has components;
+     * an operator finds a value of the wrong kind; or a count of copy, index or roll is missing, not whole, below 0 or past the stack. */
+    SKTELBAAN_REFUSED_PROGRAM_STACK = 17
 };
 
 /* A refusal in words, of the number that sktelbaan_refusal gives. The text stays for good: do not free it. */
@@ -101,9 +109,9 @@ static inline const char *sktelbaan_refusal_text(uint32_t refusal) {
         "a block's check is not that of its bytes",
         "a block of unknown kind, with a wrong own number, a byte that should be zero, or a bad name",
         "a white point, black point, gamma, range or hival that PDF does not allow",
-        "a gamma that is not 0.1 to 4.0 in whole tenths, or an exponent that is not 1 to 4",
+        "a gamma that is not 0.1 to 4.0 in whole tenths, or an exponent that is not 0 to 4",
         "a reference to no block of the page, or to a kind that may not be used there",
-        "a palette too short, with spare bytes not zero, or of no Indexed space; or C0 or C1 longer than the alternate's colours",
+        "a palette too short, with spare bytes not zero, or of no Indexed space; a program missing, badly filled, or of no Separation; or C0 or C1 longer than the alternate's colours, or beside a program",
         "the number asked for is neither a device code nor a block with a space; or neither page has an ink of that name",
         "the wrong number of components",
         "too few words for the recipe, or not 512 bytes for a block",
@@ -112,8 +120,10 @@ static inline const char *sktelbaan_refusal_text(uint32_t refusal) {
         "a number of the text is too large or too fine",
         "a key of the text is missing, doubled or unknown",
         "the text has more than " SKTELBAAN_SPELLED(SKTELBAAN_MOST_BLOCKS) " blocks",
+        "a program has an unknown token, a number too large or too fine, too many tokens or bad nesting",
+        "a program has a stack too low, too high or wrong at its end, a value of the wrong kind, or a count that is missing, not whole or beyond the stack",
     };
-    return refusal >= 1 && refusal <= 15 ? texts[refusal - 1] : "not a refusal of this library";
+    return refusal >= 1 && refusal <= 17 ? texts[refusal - 1] : "not a refusal of this library";
 }
 
 /* What an answer is in: the value of sktelbaan_run and sktelbaan_evaluate. */
@@ -148,8 +158,12 @@ static inline uint32_t sktelbaan_floats(uint32_t value) {
     }
 }
 
-/* How many words the longest recipe has. */
-enum { SKTELBAAN_MOST_WORDS = 1045 };
+/* How many words a recipe has at most: every recipe that is written fits so many, and more words are no recipe. */
+enum { SKTELBAAN_MOST_WORDS = 1084 };
+
+/* How many bytes of the machine's stack a run takes at most, below its caller: so many where the recipe has a program, step 12; a recipe without one takes
+ * less than 1,000. Measured on x86-64 by samples/stack.c, which fails where more are taken. */
+enum { SKTELBAAN_MOST_STACK = 20480 };
 
 /* The library itself is never given NULL: compilers that know the mark say so where they see one. */
 #ifdef __GNUC__

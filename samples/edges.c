@@ -1,5 +1,5 @@
-/* The edges of the C interface, checked: lists of none, the parts of a reply, answers of each kind, colours pulled in, inks by name, refusals in words, sizes, a
- * record of each kind, designers' texts, memory that nobody wrote. It is compiled as C and as C++, with the compiler's checks of addresses and of undefined
+/* The edges of the C interface, checked: lists of none, the parts of a reply, answers of each kind, colours pulled in, inks by name, programs, refusals in words,
+ * sizes, a record of each kind, designers' texts, memory that nobody wrote. It is compiled as C and as C++, with the compiler's checks of addresses and of undefined
  * behaviour, and prints what is not as it should be. */
 #include <stdio.h>
 #include <string.h>
@@ -179,15 +179,69 @@ static void inks(void) {
     expect("the place stays", place[1] == 7);
 }
 
+/* A page of a Separation with exponent 0 over DeviceGray, and of a block that has its program. */
+static void put_program(uint8_t *page, const char *text) {
+    static const int32_t ink[SKTELBAAN_RECORD_NUMBERS] = {0, SKTELBAAN_KIND_SEPARATION, SKTELBAAN_DEVICE_GRAY, 0, 7};
+    static const int32_t program[SKTELBAAN_RECORD_NUMBERS] = {1, SKTELBAAN_KIND_PROGRAM};
+    uint8_t bytes[SKTELBAAN_RECORD_BYTES] = {0};
+    memcpy(bytes, "Varnish", 7);
+    expect("exponent 0 is written", sktelbaan_write_block(ink, bytes, page, SKTELBAAN_BLOCK_BYTES) == 0);
+    memset(bytes, 0, sizeof bytes);
+    memcpy(bytes, text, strlen(text));
+    expect("a program is written", sktelbaan_write_block(program, bytes, page + SKTELBAAN_BLOCK_BYTES, SKTELBAAN_BLOCK_BYTES) == 0);
+}
+
+/* A program makes a colour of a tint, on its page and in a recipe, and says whether the tint was pulled in; a bad one is refused at the Separation's block, one
+ * that belongs to none at its own. */
+static void programs(void) {
+    static uint8_t page[2 * SKTELBAAN_BLOCK_BYTES];
+    static const int32_t recipe[11] = {1, 12, 1, 2, 25, 9, 1, 0, 0, 1000000, 4};
+    static const struct {
+        int32_t tint;
+        double gray;
+        int moved;
+    } rows[] = {{500000, 0.25, 0}, {1000000, 1, 0}, {1000001, 1, 1}, {0, 0, 0}, {INT32_MIN, 0, 1}};
+    static const struct {
+        const char *text;
+        uint32_t refusal;
+    } bad[] = {
+        {"", SKTELBAAN_REFUSED_PALETTE},
+        {" ", SKTELBAAN_REFUSED_PROGRAM_SYNTAX},
+        {"{ dup mull }", SKTELBAAN_REFUSED_PROGRAM_SYNTAX},
+        {"{ 2148 pop }", SKTELBAAN_REFUSED_PROGRAM_SYNTAX},
+        {"{ dup }", SKTELBAAN_REFUSED_PROGRAM_STACK},
+        {"{ not }", SKTELBAAN_REFUSED_PROGRAM_STACK},
+        {"{ 0.5 copy }", SKTELBAAN_REFUSED_PROGRAM_STACK},
+    };
+    int32_t words[SKTELBAAN_MOST_WORDS];
+    double floats[4] = {0};
+    put_program(page, "{ dup mul } % the square");
+    uint64_t reply = sktelbaan_write_recipe(page, sizeof page, 0, words, SKTELBAAN_MOST_WORDS);
+    expect("a program's recipe", reply == (uint64_t)11 << 32 && memcmp(words, recipe, sizeof recipe) == 0);
+    for (size_t i = 0; i < sizeof rows / sizeof rows[0]; i++) {
+        reply = sktelbaan_evaluate(page, sizeof page, 0, &rows[i].tint, 1, floats);
+        expect("a program's colour", sktelbaan_value(reply) == SKTELBAAN_GRAY && floats[0] == rows[i].gray && sktelbaan_moved(reply) == rows[i].moved);
+        floats[0] = -1;
+        expect("the same by its recipe", sktelbaan_run(recipe, 11, &rows[i].tint, 1, floats) == reply && floats[0] == rows[i].gray);
+    }
+    for (size_t i = 0; i < sizeof bad / sizeof bad[0]; i++) {
+        put_program(page, bad[i].text);
+        expect("a bad program", sktelbaan_validate(page, sizeof page) == bad[i].refusal);
+    }
+    put_program(page, "{ }");
+    put_ink(page, 0, "Gold");
+    expect("a program of no Separation", sktelbaan_validate(page, sizeof page) == ((uint64_t)1 << 32 | SKTELBAAN_REFUSED_PALETTE));
+}
+
 /* Every refusal has a text of its own, and no other number has one. */
 static void texts(void) {
     const char *other = sktelbaan_refusal_text(0);
-    for (uint32_t n = SKTELBAAN_REFUSED_LENGTH; n <= SKTELBAAN_REFUSED_TEXT_BLOCKS; n++) {
+    for (uint32_t n = SKTELBAAN_REFUSED_LENGTH; n <= SKTELBAAN_REFUSED_PROGRAM_STACK; n++) {
         expect("a refusal's text", strcmp(sktelbaan_refusal_text(n), other) != 0);
         for (uint32_t m = SKTELBAAN_REFUSED_LENGTH; m < n; m++)
             expect("two refusals' texts", strcmp(sktelbaan_refusal_text(n), sktelbaan_refusal_text(m)) != 0);
     }
-    expect("the text of 16", strcmp(sktelbaan_refusal_text(SKTELBAAN_REFUSED_TEXT_BLOCKS + 1), other) == 0);
+    expect("the text of 18", strcmp(sktelbaan_refusal_text(SKTELBAAN_REFUSED_PROGRAM_STACK + 1), other) == 0);
     expect("the text of the last number", strcmp(sktelbaan_refusal_text(UINT32_MAX), other) == 0);
 }
 
@@ -209,18 +263,33 @@ static void sizes(void) {
         expect("the last reference", sktelbaan_write_block(over, bytes, page, SKTELBAAN_BLOCK_BYTES) == (more ? SKTELBAAN_REFUSED_REFERENCE : 0));
     }
 
-    /* One component, limited to 0..0 again and again; then CalGray's closing step of four words, or a step more and Gray's of one. */
+    /* One component, limited to 0..0 again and again; then Lab's closing step of three words, or CalGray's of four. */
     words[0] = 1;
-    for (int i = 1; i < SKTELBAAN_MOST_WORDS; i += 4)
+    for (int i = 1; i < SKTELBAAN_MOST_WORDS - 3; i += 4)
         words[i] = 1;
-    words[SKTELBAAN_MOST_WORDS - 4] = 7;
-    words[SKTELBAAN_MOST_WORDS - 1] = 1000000;
+    words[SKTELBAAN_MOST_WORDS - 3] = 9;
     expect("the most words", sktelbaan_value(sktelbaan_run(words, SKTELBAAN_MOST_WORDS, colour, 1, floats)) == SKTELBAAN_XYZ);
-    words[SKTELBAAN_MOST_WORDS - 4] = 1;
-    words[SKTELBAAN_MOST_WORDS] = 4;
+    words[SKTELBAAN_MOST_WORDS - 3] = 7;
+    words[SKTELBAAN_MOST_WORDS] = 1000000;
     expect("a word more", sktelbaan_run(words, SKTELBAAN_MOST_WORDS + 1, colour, 1, floats) == SKTELBAAN_REFUSED_RECIPE);
     words[4] = 1;
-    expect("the same with a step less", sktelbaan_value(sktelbaan_run(words + 4, SKTELBAAN_MOST_WORDS - 3, colour, 1, floats)) == SKTELBAAN_GRAY);
+    expect("the same with a step less", sktelbaan_value(sktelbaan_run(words + 4, SKTELBAAN_MOST_WORDS - 3, colour, 1, floats)) == SKTELBAAN_XYZ);
+
+    /* A program that fills a recipe, and one that is a word longer: a number is put on and taken off again and again, then neg. */
+    static const int32_t item[3] = {1, 5, 23};
+    const int32_t most = SKTELBAAN_MOST_WORDS - 5;
+    for (int32_t more = 0; more < 2; more++) {
+        const int32_t count = most + more;
+        words[0] = 1;
+        words[1] = 12;
+        words[2] = 1;
+        words[3] = count;
+        for (int32_t i = 0; i < count; i++)
+            words[4 + i] = i < count - count % 3 ? item[i % 3] : 18;
+        words[4 + count] = 4;
+        reply = sktelbaan_run(words, (size_t)count + 5, colour, 1, floats);
+        expect("the longest program", more ? reply == SKTELBAAN_REFUSED_RECIPE : sktelbaan_value(reply) == SKTELBAAN_GRAY && floats[0] == 0);
+    }
 }
 
 /* A record of each kind is written as a block of that kind, and read back as it was. */
@@ -233,12 +302,15 @@ static void records(void) {
         {5, SKTELBAAN_KIND_INDEXED, SKTELBAAN_DEVICE_RGB, 255},
         {5, SKTELBAAN_KIND_SEPARATION, SKTELBAAN_DEVICE_CMYK, 4, 4, 1, 2, 3, 4, 5, 6, 7, 8},
         {5, SKTELBAAN_KIND_PALETTE},
+        {5, SKTELBAAN_KIND_PROGRAM},
     };
-    for (int32_t kind = SKTELBAAN_KIND_FREE; kind <= SKTELBAAN_KIND_PALETTE; kind++) {
+    for (int32_t kind = SKTELBAAN_KIND_FREE; kind <= SKTELBAAN_KIND_PROGRAM; kind++) {
         uint8_t bytes[SKTELBAAN_RECORD_BYTES] = {0}, block[SKTELBAAN_BLOCK_BYTES], found[SKTELBAAN_RECORD_BYTES];
         int32_t numbers[SKTELBAAN_RECORD_NUMBERS];
         if (kind == SKTELBAAN_KIND_SEPARATION)
             memcpy(bytes, "Gold", 4);
+        if (kind == SKTELBAAN_KIND_PALETTE || kind == SKTELBAAN_KIND_PROGRAM)
+            memset(bytes, 0xff, sizeof bytes);
         expect("a record is written", sktelbaan_write_block(rows[kind], bytes, block, sizeof block) == 0);
         expect("it is of its kind", block[0] == kind && block[3] == 5);
         expect("it is read", sktelbaan_read_block(block, sizeof block, numbers, found) == 0);
@@ -336,6 +408,7 @@ int main(void) {
     answers();
     pulled_in();
     inks();
+    programs();
     texts();
     sizes();
     records();

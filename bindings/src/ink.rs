@@ -57,8 +57,8 @@ impl std::error::Error for InkRefusal {}
 
 /// Asks for an ink, a Separation, by its name: the lowest block of the job's page that has that name,
 /// else the lowest of the house page. The name is compared byte by byte, with its length, and may be any
-/// bytes. Refusals 1 to 7 of the job's page, then of the house page, then 8 where neither has it. Both
-/// pages are validated each time.
+/// bytes. Refusals of [`validate`](crate::validate), of the job's page, then of the house page, then 8
+/// where neither has it. Both pages are validated each time.
 ///
 /// ```
 /// use sktelbaan::{find_ink, InkPage};

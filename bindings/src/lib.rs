@@ -52,8 +52,8 @@ pub const DEVICE_GRAY: u32 = 0xff01;
 pub const DEVICE_RGB: u32 = 0xff03;
 /// The number that asks for DeviceCMYK.
 pub const DEVICE_CMYK: u32 = 0xff04;
-/// The words of the longest recipe.
-pub const LONGEST: usize = 1045;
+/// How many words a recipe has at most: every recipe that is written fits so many, and more words are no recipe.
+pub const LONGEST: usize = 1084;
 
 /// The answer to a colour: what it is in, and its floats.
 ///
@@ -181,21 +181,21 @@ impl fmt::Display for Colour {
 /// ```
 #[derive(Clone, Copy, Debug, PartialEq, Eq, Hash)]
 pub struct Refusal {
-    /// The refusal's number, 1 to 11: a text has its own, in [`Unread`].
+    /// The refusal's number, 1 to 11, 16 or 17: a text has its own, in [`Unread`].
     pub number: u32,
     /// The block that the refusal is about, 0 for a refusal that is about none.
     pub block: u32,
 }
 
-/// The refusals 1 to 15 in words, as C has them.
-const MEANINGS: [&str; 15] = [
+/// The refusals 1 to 17 in words, as C has them.
+const MEANINGS: [&str; 17] = [
     concat!("the page is not 1 to ", most_blocks!(), " blocks of 512 bytes"),
     "a block's check is not that of its bytes",
     "a block of unknown kind, with a wrong own number, a byte that should be zero, or a bad name",
     "a white point, black point, gamma, range or hival that PDF does not allow",
-    "a gamma that is not 0.1 to 4.0 in whole tenths, or an exponent that is not 1 to 4",
+    "a gamma that is not 0.1 to 4.0 in whole tenths, or an exponent that is not 0 to 4",
     "a reference to no block of the page, or to a kind that may not be used there",
-    "a palette too short, with spare bytes not zero, or of no Indexed space; or C0 or C1 longer than the alternate's colours",
+    "a palette too short, with spare bytes not zero, or of no Indexed space; a program missing, badly filled, or of no Separation; or C0 or C1 longer than the alternate's colours, or beside a program",
     "the number asked for is neither a device code nor a block with a space; or neither page has an ink of that name",
     "the wrong number of components",
     "too few words for the recipe, or not 512 bytes for a block",
@@ -204,6 +204,8 @@ const MEANINGS: [&str; 15] = [
     "a number of the text is too large or too fine",
     "a key of the text is missing, doubled or unknown",
     concat!("the text has more than ", most_blocks!(), " blocks"),
+    "a program has an unknown token, a number too large or too fine, too many tokens or bad nesting",
+    "a program has a stack too low, too high or wrong at its end, a value of the wrong kind, or a count that is missing, not whole or beyond the stack",
 ];
 
 /// When a refusal of this number is given.
@@ -265,7 +267,7 @@ fn colour(reply: u64, floats: [f64; 4]) -> Result<Colour, Refusal> {
     Ok(Colour { answer, moved })
 }
 
-/// Validates a page: 512 bytes for each of its 1 to [`MOST_BLOCKS`] blocks. Refusals 1 to 7.
+/// Validates a page: 512 bytes for each of its 1 to [`MOST_BLOCKS`] blocks. Refusals 1 to 7, 16 and 17.
 ///
 /// ```
 /// // A block of zeros is a page with no spaces.
@@ -283,7 +285,7 @@ pub fn validate(page: &[u8]) -> Result<(), Refusal> {
 }
 
 /// Evaluates a colour of the space at a number of a page, a block's number or a device code.
-/// Refusals 1 to 9. The page is validated each time.
+/// Refusals of [`validate`], then 8, then 9. The page is validated each time.
 ///
 /// ```
 /// use sktelbaan::{evaluate, Answer, DEVICE_RGB};
@@ -315,8 +317,8 @@ pub fn evaluate(page: &[u8], number: u32, components: &[i32]) -> Result<Colour, 
 }
 
 /// Writes the recipe of the space at a number of a page into the first of the lent words, and gives
-/// how many words it is; those past it stay as they were. Refusals 1 to 8, and 10 for too few words:
-/// [`LONGEST`] are always enough.
+/// how many words it is; those past it stay as they were. Refusals of [`validate`], then 8, and 10 for too few
+/// words: [`LONGEST`] are always enough.
 ///
 /// ```
 /// use sktelbaan::{write_recipe, DEVICE_GRAY};
@@ -342,7 +344,7 @@ pub fn write_recipe(page: &[u8], number: u32, words: &mut [i32]) -> Result<usize
     given(reply).map(|count| count as usize)
 }
 
-/// The recipe of the space at a number of a page, as a list of its own. Refusals 1 to 8.
+/// The recipe of the space at a number of a page, as a list of its own. Refusals of [`validate`], then 8.
 ///
 /// ```
 /// let words = sktelbaan::recipe(&[0; 512], sktelbaan::DEVICE_GRAY)?;
@@ -510,10 +512,10 @@ mod tests {
         assert_ne!(Answer::EveryInk(0.5), Answer::Gray(0.5));
         assert_eq!(Answer::Gray(f64::NAN), Answer::Gray(f64::NAN));
         assert_ne!(Answer::Cmyk([0.0; 4]), Answer::Cmyk([0.0, 0.0, 0.0, -0.0]));
-        let meanings: std::collections::HashSet<_> = (0..=11)
+        let meanings: std::collections::HashSet<_> = (0..=17)
             .map(|number| Refusal { number, block: 0 }.meaning())
             .collect();
-        assert_eq!(meanings.len(), 12);
+        assert_eq!(meanings.len(), 18);
     }
 
     /// The C headers, which have the same words and numbers.
@@ -537,7 +539,7 @@ mod tests {
             .collect();
         assert_eq!(texts, MEANINGS);
         let other = Refusal {
-            number: 16,
+            number: 18,
             block: 0,
         }
         .meaning();

@@ -46,32 +46,35 @@ pub enum Body {
         /// The greatest index.
         hival: u16,
     },
-    /// Kind 5: a Separation space; its name is kept in the record's bytes.
+    /// Kind 5: a Separation space; its name is kept in the record's bytes. With exponent 0 its program
+    /// lies in the blocks straight after it.
     Separation {
         /// The reference to the alternate space.
         alternate: u16,
-        /// The exponent in whole units.
+        /// The exponent in whole units, 1 to 4; 0 means a program.
         exponent: u8,
         /// How many bytes the name has.
         name_length: u8,
-        /// The alternate components of tint 0.
+        /// The alternate components of tint 0; zeros beside a program.
         c0: [i32; 4],
-        /// The alternate components of tint 1.
+        /// The alternate components of tint 1; zeros beside a program.
         c1: [i32; 4],
     },
     /// Kind 6: a part of a palette, kept in the record's bytes.
     Palette,
+    /// Kind 7: a part of a program's text, kept in the record's bytes. By itself it may be any bytes.
+    Program,
 }
 
-/// One record: the block's own number, what it records, and the bytes of a name or of a palette.
+/// One record: the block's own number, what it records, and the bytes of a name, a palette or a program.
 #[derive(Clone, Copy, Debug, PartialEq, Eq, Hash)]
 pub struct Record {
     /// The block's own number, below [`MOST_BLOCKS`](crate::MOST_BLOCKS) in an accepted record.
     pub number: u16,
     /// What the block records.
     pub body: Body,
-    /// A Separation's name in the first 128 places, a palette's bytes in all 504; every other place
-    /// is zero.
+    /// A Separation's name in the first 128 places, a palette's or a program's bytes in all 504; every
+    /// other place is zero.
     pub bytes: [u8; 504],
 }
 
@@ -118,6 +121,7 @@ impl Record {
                 [&own[..], c0, c1].concat()
             }
             Body::Palette => vec![number, 6],
+            Body::Program => vec![number, 7],
         };
         for (place, v) in numbers.iter_mut().zip(row) {
             *place = v;
@@ -158,7 +162,8 @@ impl Record {
                 c1: [v[7], v[8], v[9], v[10]],
             },
             6 => Body::Palette,
-            other => unreachable!("a record is of one of seven kinds, not of {other}"),
+            7 => Body::Program,
+            other => unreachable!("a record is of one of eight kinds, not of {other}"),
         };
         Record {
             number: number as u16,
@@ -180,6 +185,19 @@ impl Record {
 ///
 /// let body = Body::Indexed { base: 0xff03, hival: 256 };
 /// assert_eq!(write_block(&Record { body, ..record }).unwrap_err().number, 4);
+/// # Ok::<(), sktelbaan::Refusal>(())
+/// ```
+///
+/// A page of a Separation over DeviceGray, and of a block with its program, by which tint 0.5 is Gray 0.25:
+///
+/// ```
+/// use sktelbaan::{evaluate, write_block, Answer, Body, Record};
+/// let of = |text: &[u8]| std::array::from_fn(|k| text.get(k).copied().unwrap_or(0));
+/// let body = Body::Separation { alternate: 0xff01, exponent: 0, name_length: 4, c0: [0; 4], c1: [0; 4] };
+/// let ink = Record { number: 0, body, bytes: of(b"Gold") };
+/// let program = Record { number: 1, body: Body::Program, bytes: of(b"{ dup mul }") };
+/// let page = [write_block(&ink)?, write_block(&program)?].concat();
+/// assert_eq!(evaluate(&page, 0, &[500_000])?.answer, Answer::Gray(0.25));
 /// # Ok::<(), sktelbaan::Refusal>(())
 /// ```
 pub fn write_block(record: &Record) -> Result<[u8; 512], Refusal> {
@@ -283,13 +301,13 @@ mod tests {
         (reply, numbers, bytes)
     }
 
-    /// An accepted record of each kind, as numbers and bytes.
+    /// An accepted record of each kind, as numbers and bytes, and a Separation with a program.
     fn records() -> Vec<([i32; 20], [u8; 504])> {
         let one = 1_000_000;
         let zeros = [0; 504];
         let mut name = zeros;
         name[..3].copy_from_slice(b"Ink");
-        let rows: [(&[i32], [u8; 504]); 7] = [
+        let rows: [(&[i32], [u8; 504]); 9] = [
             (&[MOST - 1, 0], zeros),
             (&[1, 1, 5, one, 7, 0, 1, 2, 2 * one], zeros),
             (
@@ -305,6 +323,8 @@ mod tests {
             (&[4, 4, 0xff03, 255], zeros),
             (&[5, 5, 0xff04, 4, 3, -1, 2, -3, 4, 5, -6, 7, -8], name),
             (&[6, 6], std::array::from_fn(|k| k as u8)),
+            (&[7, 7], std::array::from_fn(|k| k as u8)),
+            (&[5, 5, 0xff04, 0, 3, -1, 2, -3, 4, 5, -6, 7, -8], name),
         ];
         rows.map(|(row, bytes)| {
             let mut numbers = [0; 20];
@@ -350,15 +370,15 @@ mod tests {
         // Each place that is no field of 32 bits, with the least number that is too large for its rule.
         for (numbers, bytes) in records() {
             let rules: &[(usize, u64, i32)] = match numbers[1] {
-                4 => &[(0, 3, MOST), (1, 3, 7), (2, 6, MOST), (3, 4, 256)],
+                4 => &[(0, 3, MOST), (1, 3, 8), (2, 6, MOST), (3, 4, 256)],
                 5 => &[
                     (0, 3, MOST),
-                    (1, 3, 7),
+                    (1, 3, 8),
                     (2, 6, MOST),
                     (3, 5, 5),
                     (4, 3, 128),
                 ],
-                _ => &[(0, 3, MOST), (1, 3, 7)],
+                _ => &[(0, 3, MOST), (1, 3, 8)],
             };
             for (place, number, limit) in rules {
                 for v in [*limit, 65536, 65536 + limit, -1, i32::MIN, i32::MAX] {
@@ -373,7 +393,7 @@ mod tests {
     #[test]
     fn a_number_that_the_kind_does_not_name_is_zero() {
         for (numbers, bytes) in records() {
-            let named = [2, 9, 20, 12, 4, 13, 2][numbers[1] as usize];
+            let named = [2, 9, 20, 12, 4, 13, 2, 2][numbers[1] as usize];
             for place in named..20 {
                 for v in [1, -1, 65536, i32::MIN] {
                     let mut other = numbers;

@@ -11,7 +11,7 @@ use std::fmt::Debug;
 const EACH: u64 = 8;
 
 /// Words in hexadecimal, eight digits to a word.
-fn hex_of_words(words: &[i32]) -> String {
+pub(crate) fn hex_of_words(words: &[i32]) -> String {
     let bytes: Vec<u8> = words.iter().flat_map(|word| word.to_be_bytes()).collect();
     hex_of(&bytes)
 }
@@ -83,7 +83,7 @@ fn room(rng: &mut Rng, length: usize) -> Vec<i32> {
 }
 
 /// Writes a recipe into room of this length, and compares every word of it afterwards.
-fn write(
+pub(crate) fn write(
     library: &Library,
     rng: &mut Rng,
     page: &[u8],

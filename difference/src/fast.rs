@@ -3,8 +3,8 @@
 //! `reference/` is plain and says what document 01 says. A benchmark beside it alone would flatter the proved library,
 //! so this one is measured too; nothing else uses it. The tests hold it to the plain one on random input.
 //!
-//! - `validate`: the check is summed in columns, zeros are sought without an early way out, and a palette block is
-//!   known to be astray by the end of the last run.
+//! - `validate`: the check is summed in columns, zeros are sought without an early way out, and a palette or program
+//!   block is known to be astray by the end of the last run. Programs are judged and run as the plain one does it.
 //! - `run`: a recipe is read in place, with no list of its steps, and roundings keep to 64 bits.
 //! - gammas in tenths: the power in floats, and the plain search only where a float does not decide.
 //! - `evaluate`: the fast validation, CalGray and CalRGB as in `run`, then the plain colour steps.

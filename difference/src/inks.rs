@@ -3,6 +3,7 @@
 use crate::{inputs, Difference, InkReply, Library, Tally, REFERENCE};
 use reference::block::{lay, read_block, Body, Record, BLOCK, DEVICE_GRAY};
 use reference::cases::hex_of;
+use reference::generate::programs::random_program_page_of;
 use reference::generate::{random_page_of, Rng};
 use reference::records::{named, separation};
 use sktelbaan::InkPage;
@@ -62,7 +63,11 @@ fn page_of_inks(rng: &mut Rng, name: &[u8]) -> Vec<u8> {
         return inputs::page(rng);
     }
     let blocks = 1 + rng.below(8);
-    let mut page = random_page_of(rng, blocks);
+    let mut page = if rng.once_in(8) {
+        random_program_page_of(rng, blocks)
+    } else {
+        random_page_of(rng, blocks)
+    };
     for block in page.chunks_exact_mut(BLOCK) {
         let Ok(record) = read_block(block) else {
             continue;

@@ -4,6 +4,10 @@ use crate::ours;
 use reference::block::{
     lay, seal, Body, Record, BLOCK, DEVICE_CMYK, DEVICE_GRAY, DEVICE_RGB, MOST_BLOCKS,
 };
+use reference::generate::programs::{
+    damage_program_page, damage_program_recipe, long_program_recipe, random_lone_program_record,
+    random_program_page, random_program_page_of, random_program_recipe,
+};
 use reference::generate::{
     damage, damage_recipe, long_recipe, random_component, random_lone_record, random_page,
     random_page_of, random_recipe, repair, Rng,
@@ -19,12 +23,31 @@ const MOST: u16 = MOST_BLOCKS as u16;
 
 /// A page: accepted, broken in one to three ways, or of random bytes.
 pub fn page(rng: &mut Rng) -> Vec<u8> {
-    match rng.below(8) {
-        0 | 1 => random_page(rng),
+    match rng.below(10) {
+        0 | 1 => accepted_page(rng),
         2..=5 => broken_page(rng),
-        6 => random_bytes(rng),
+        6 | 7 => broken_program_page(rng),
+        8 => random_bytes(rng),
         _ => random_blocks(rng),
     }
+}
+
+/// An accepted page, some with spaces over programs.
+fn accepted_page(rng: &mut Rng) -> Vec<u8> {
+    if rng.once_in(3) {
+        page_of_programs(rng)
+    } else {
+        random_page(rng)
+    }
+}
+
+/// An accepted page with spaces over programs. Few are large, for judging many programs takes long.
+fn page_of_programs(rng: &mut Rng) -> Vec<u8> {
+    if rng.once_in(64) {
+        return random_program_page(rng);
+    }
+    let blocks = 2 + rng.below(10);
+    random_program_page_of(rng, blocks)
 }
 
 /// A page to ask for spaces: most are accepted.
@@ -32,7 +55,7 @@ pub fn page_to_ask(rng: &mut Rng) -> Vec<u8> {
     if rng.once_in(4) {
         page(rng)
     } else {
-        random_page(rng)
+        accepted_page(rng)
     }
 }
 
@@ -48,6 +71,19 @@ pub fn broken_page(rng: &mut Rng) -> Vec<u8> {
     let mut page = random_page(rng);
     for _ in 0..1 + rng.below(3) {
         damage(rng, &mut page);
+    }
+    page
+}
+
+/// A page with spaces over programs, broken in one or two ways that only such pages have, or once in a while in any.
+fn broken_program_page(rng: &mut Rng) -> Vec<u8> {
+    let mut page = page_of_programs(rng);
+    for _ in 0..1 + rng.below(2) {
+        if rng.once_in(6) {
+            damage(rng, &mut page);
+        } else {
+            damage_program_page(rng, &mut page);
+        }
     }
     page
 }
@@ -68,7 +104,7 @@ fn random_blocks(rng: &mut Rng) -> Vec<u8> {
     let mut page = vec![0; count * BLOCK];
     for number in 0..count {
         let start = number * BLOCK;
-        page[start] = rng.below(8) as u8;
+        page[start] = rng.below(9) as u8;
         write_two(&mut page, start + 2, number as u16);
         for _ in 0..rng.below(40) {
             let reach = rng.pick(&[44, 168, 504], 504);
@@ -136,7 +172,11 @@ pub fn colour_at(rng: &mut Rng, page: &[u8], number: u32) -> Vec<i32> {
 /// A page's recipe, as it would be written.
 fn page_recipe(rng: &mut Rng) -> Vec<i32> {
     let blocks = 1 + rng.below(8);
-    let page = random_page_of(rng, blocks);
+    let page = if rng.once_in(3) {
+        random_program_page_of(rng, blocks)
+    } else {
+        random_page_of(rng, blocks)
+    };
     let number = number(rng, &page);
     recipe_of(&page, number).unwrap_or_default()
 }
@@ -144,22 +184,45 @@ fn page_recipe(rng: &mut Rng) -> Vec<i32> {
 /// A list of words to be run: a recipe, one broken in one to three ways, one about as long as may be,
 /// or random words.
 pub fn words(rng: &mut Rng) -> Vec<i32> {
-    let mut words = match rng.below(8) {
+    let mut words = match rng.below(10) {
         0..=3 => random_recipe(rng),
         4 | 5 => page_recipe(rng),
-        6 => {
-            let length = rng.pick(&[1043, 1044, 1045, 1045, 1046, 1047, 2000], MOST_WORDS);
-            long_recipe(rng, length)
+        6 | 7 => random_program_recipe(rng),
+        8 => {
+            let length = rng.pick(&LENGTHS, MOST_WORDS);
+            if rng.once_in(2) {
+                long_recipe(rng, length)
+            } else {
+                long_program_recipe(rng, length)
+            }
         }
         _ => return random_words(rng),
     };
     if rng.once_in(2) {
         for _ in 0..1 + rng.below(3) {
-            damage_recipe(rng, &mut words);
+            if rng.once_in(2) {
+                damage_recipe(rng, &mut words);
+            } else {
+                damage_program_recipe(rng, &mut words);
+            }
         }
     }
     words
 }
+
+/// The lengths of long lists of words: about the most of a recipe, and about what was the most before programs.
+const LENGTHS: [usize; 10] = [
+    MOST_WORDS - 2,
+    MOST_WORDS - 1,
+    MOST_WORDS,
+    MOST_WORDS,
+    MOST_WORDS,
+    MOST_WORDS + 1,
+    MOST_WORDS + 1,
+    MOST_WORDS + 2,
+    1046,
+    2000,
+];
 
 /// Random words, small ones above all.
 fn random_words(rng: &mut Rng) -> Vec<i32> {
@@ -169,7 +232,7 @@ fn random_words(rng: &mut Rng) -> Vec<i32> {
     };
     let word = |rng: &mut Rng| match rng.below(3) {
         0 => rng.number(),
-        _ => rng.between(0, 12),
+        _ => rng.between(0, 13),
     };
     (0..length).map(|_| word(rng)).collect()
 }
@@ -205,7 +268,7 @@ fn moved_reference(rng: &mut Rng, reference: &mut u16) {
 fn alter_body(rng: &mut Rng, body: &mut Body) {
     let pick = rng.below(32);
     match body {
-        Body::Free | Body::Palette => {}
+        Body::Free | Body::Palette | Body::Program => {}
         Body::CalGray {
             white,
             black,
@@ -255,10 +318,19 @@ fn alter_body(rng: &mut Rng, body: &mut Body) {
     }
 }
 
+/// A record that is accepted by itself; some are of programs.
+fn accepted_record(rng: &mut Rng) -> Record {
+    let number = rng.below(MOST_BLOCKS) as u16;
+    if rng.once_in(5) {
+        random_lone_program_record(rng, number)
+    } else {
+        random_lone_record(rng, number)
+    }
+}
+
 /// A record: one that is accepted by itself, or one altered in one to three places.
 pub fn record(rng: &mut Rng) -> Record {
-    let number = rng.below(MOST_BLOCKS) as u16;
-    let mut record = random_lone_record(rng, number);
+    let mut record = accepted_record(rng);
     if rng.once_in(3) {
         return record;
     }
@@ -281,8 +353,7 @@ pub fn record(rng: &mut Rng) -> Record {
 /// A record as C passes it: numbers and bytes of an accepted one, with up to three numbers of any 32 bits
 /// in place of its own.
 pub fn numbers(rng: &mut Rng) -> ([i32; 20], [u8; 504]) {
-    let number = rng.below(MOST_BLOCKS) as u16;
-    let record = ours(&random_lone_record(rng, number));
+    let record = ours(&accepted_record(rng));
     let (mut numbers, mut bytes) = (record.numbers(), record.bytes);
     for _ in 0..rng.below(4) {
         let place = rng.pick(&[5, 13, 20], 20);
@@ -320,7 +391,7 @@ pub fn block(rng: &mut Rng) -> Vec<u8> {
             seal(&mut block);
         }
         6 => {
-            block[0] = rng.below(9) as u8;
+            block[0] = rng.below(10) as u8;
             seal(&mut block);
         }
         _ => {

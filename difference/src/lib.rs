@@ -7,6 +7,7 @@ pub mod compare;
 pub mod fast;
 pub mod inks;
 pub mod inputs;
+pub mod programs;
 
 use reference::block as other;
 use reference::cie::Answer as Expected;
@@ -181,6 +182,7 @@ pub fn theirs(record: &Record) -> other::Record {
             c1,
         },
         Body::Palette => other::Body::Palette,
+        Body::Program => other::Body::Program,
     };
     other::Record {
         number: record.number,
@@ -237,6 +239,7 @@ pub fn ours(record: &other::Record) -> Record {
             c1,
         },
         other::Body::Palette => Body::Palette,
+        other::Body::Program => Body::Program,
     };
     Record {
         number: record.number,
@@ -297,7 +300,7 @@ pub struct Tally {
     /// How many of those answered say that the colour was pulled in.
     pub moved: u64,
     /// How many were refused, by the refusal's number; the first place stays 0.
-    pub refused: [u64; 16],
+    pub refused: [u64; 18],
 }
 
 impl Tally {

@@ -1,6 +1,6 @@
 //! The fast rival of the benchmark replies what the plain reference replies.
 
-use difference::{compare, fast, FAST};
+use difference::{compare, fast, programs, FAST};
 use reference::block::{sums, BLOCK};
 use reference::gamma::greatest;
 use reference::generate::Rng;
@@ -45,7 +45,7 @@ fn gammas_in_tenths_are_alike() {
 fn pages_are_validated_alike() {
     let tally = compare::validate(&FAST, &mut Rng::new(21), 4 * PAGES).unwrap();
     assert_eq!(tally.total(), 4 * PAGES);
-    for number in 1..=7 {
+    for number in (1..=7).chain([16, 17]) {
         assert!(tally.refused[number] > 0, "refusal {number} was never met");
     }
 }
@@ -54,7 +54,7 @@ fn pages_are_validated_alike() {
 fn colours_are_evaluated_alike() {
     let tally = compare::evaluate(&FAST, &mut Rng::new(22), 4 * PAGES).unwrap();
     assert!(tally.accepted > PAGES);
-    for number in 1..=9 {
+    for number in (1..=9).chain([16, 17]) {
         assert!(tally.refused[number] > 0, "refusal {number} was never met");
     }
 }
@@ -66,4 +66,18 @@ fn recipes_are_run_alike() {
     let tally = compare::run(&FAST, &mut Rng::new(24), 16 * PAGES).unwrap();
     assert!(tally.accepted > PAGES);
     assert!(tally.refused[9] > 0 && tally.refused[11] > PAGES);
+}
+
+#[test]
+fn programs_are_answered_alike() {
+    let found = programs::accepted(&FAST, &mut Rng::new(25), PAGES).unwrap();
+    assert!(found.pages.accepted == PAGES && 2 * found.branched > PAGES);
+    let tally = programs::damaged(&FAST, &mut Rng::new(26), 4 * PAGES).unwrap();
+    assert_eq!(tally.total(), 4 * PAGES);
+    for number in [5, 6, 7, 16, 17] {
+        assert!(tally.refused[number] > 0, "refusal {number} was never met");
+    }
+    let tally = programs::flat_forms(&FAST, &mut Rng::new(27), 4 * PAGES).unwrap();
+    assert!(tally.accepted > PAGES && tally.refused[11] > PAGES);
+    programs::operators(&FAST).unwrap();
 }

@@ -1,6 +1,6 @@
 //! The comparisons with small counts: the proved library agrees, and idle or faulty ones are caught.
 
-use difference::{compare, inks, Library, PROVED, REFERENCE};
+use difference::{compare, inks, programs, Library, PROVED, REFERENCE};
 use reference::generate::Rng;
 use reference::page::{family, Family};
 use sktelbaan::{Answer, Colour, InkPage, InkRefusal, Refusal};
@@ -13,7 +13,7 @@ fn pages_are_validated_alike() {
     let tally = compare::validate(&PROVED, &mut Rng::new(1), PAGES).unwrap();
     assert_eq!(tally.total(), PAGES);
     assert!(tally.accepted > PAGES / 8);
-    for number in 1..=7 {
+    for number in (1..=7).chain([16, 17]) {
         assert!(tally.refused[number] > 0, "refusal {number} was never met");
     }
 }
@@ -24,7 +24,7 @@ fn colours_are_evaluated_alike() {
     assert_eq!(tally.total(), 4 * PAGES);
     assert!(tally.accepted > PAGES);
     assert!(tally.moved > PAGES / 4 && tally.accepted - tally.moved > PAGES / 4);
-    for number in 1..=9 {
+    for number in (1..=9).chain([16, 17]) {
         assert!(tally.refused[number] > 0, "refusal {number} was never met");
     }
 }
@@ -33,9 +33,10 @@ fn colours_are_evaluated_alike() {
 fn recipes_are_written_and_run_alike() {
     let found = compare::recipes(&PROVED, &mut Rng::new(3), 2 * PAGES).unwrap();
     assert_eq!(found.run.total(), 2 * PAGES);
-    assert_eq!(found.longest, sktelbaan::LONGEST);
+    // The longest recipe of a page is that of hival 255 over CMYK: no program's is as long.
+    assert_eq!(found.longest, 1045);
     assert!(found.run.accepted > PAGES && found.run.refused[9] > 0);
-    for number in (1..=8).chain([10]) {
+    for number in (1..=8).chain([10, 16, 17]) {
         let count = found.written.refused[number];
         assert!(count > 0, "refusal {number} was never met");
     }
@@ -47,6 +48,46 @@ fn word_lists_are_run_alike() {
     assert!(tally.total() >= PAGES && tally.accepted > PAGES / 5);
     assert!(tally.moved > PAGES / 20 && tally.accepted - tally.moved > PAGES / 20);
     assert!(tally.refused[9] > 0 && tally.refused[11] > PAGES / 10);
+}
+
+#[test]
+fn programs_are_answered_alike() {
+    let found = programs::accepted(&PROVED, &mut Rng::new(11), PAGES).unwrap();
+    assert_eq!(found.pages.accepted, PAGES);
+    assert!(2 * found.branched > PAGES, "{found}");
+    assert!(found.longest > 400, "{found}");
+    let colours = found.colours;
+    assert!(colours.moved > PAGES / 10 && colours.accepted - colours.moved > PAGES);
+    assert!(colours.refused[9] > 0);
+}
+
+#[test]
+fn damaged_programs_are_refused_alike() {
+    let tally = programs::damaged(&PROVED, &mut Rng::new(12), 4 * PAGES).unwrap();
+    assert_eq!(tally.total(), 4 * PAGES);
+    for number in [5, 6, 7] {
+        assert!(tally.refused[number] > 0, "refusal {number} was never met");
+    }
+    assert!(tally.refused[16] > PAGES / 2 && tally.refused[17] > PAGES / 2);
+    assert!(tally.accepted > PAGES / 20);
+}
+
+#[test]
+fn flat_forms_are_run_alike() {
+    let tally = programs::flat_forms(&PROVED, &mut Rng::new(13), 8 * PAGES).unwrap();
+    assert_eq!(tally.total(), 8 * PAGES);
+    assert!(tally.accepted > 2 * PAGES && tally.refused[11] > 2 * PAGES);
+    assert!(tally.moved > PAGES / 4 && tally.accepted - tally.moved > PAGES);
+    assert!(tally.refused[9] > 0);
+}
+
+#[test]
+fn operators_are_run_alike() {
+    let tally = programs::operators(&PROVED).unwrap();
+    assert!(
+        tally.accepted > 2_600 && tally.refused[11] > 7_000,
+        "{tally}"
+    );
 }
 
 /// Every component that a gamma in tenths tells apart, under every such gamma: 36 gammas and 10,001 numbers u.
@@ -373,6 +414,141 @@ fn a_wrong_word_on_moving_is_caught() {
         ..REFERENCE
     };
     assert_eq!(caught(&rounding), [false, true, true, false]);
+}
+
+/// Whether each comparison of programs finds a difference: accepted ones, damaged ones, flat forms, operators.
+fn caught_in_programs(library: &Library) -> [bool; 4] {
+    let rng = &mut Rng::new(14);
+    [
+        programs::accepted(library, rng, 400).is_err(),
+        programs::damaged(library, rng, 2_000).is_err(),
+        programs::flat_forms(library, rng, 2_000).is_err(),
+        programs::operators(library).is_err(),
+    ]
+}
+
+/// The refusal of one number in place of another.
+fn exchanged<T>(reply: Result<T, Refusal>, from: u32, to: u32) -> Result<T, Refusal> {
+    reply.map_err(|refusal| match refusal {
+        Refusal { number, block } if number == from => Refusal { number: to, block },
+        other => other,
+    })
+}
+
+/// The words of a recipe that is a step 12 and a closing step, with one code of its items in place of another.
+fn recoded(words: &[i32], from: i32, to: i32) -> Vec<i32> {
+    let mut words = words.to_vec();
+    let mut at = 4;
+    while at + 1 < words.len() && words[1] == 12 {
+        let length = match words[at] {
+            1..=3 | 5 | 6 => 2,
+            4 => 3,
+            _ => 1,
+        };
+        if words[at] == from {
+            words[at] = to;
+        }
+        at += length;
+    }
+    words
+}
+
+#[test]
+fn faults_of_programs_are_caught() {
+    assert_eq!(caught_in_programs(&REFERENCE), [false; 4]);
+    // Takes one refusal for another.
+    let sixteen = Library {
+        validate: |page| exchanged((REFERENCE.validate)(page), 17, 16),
+        ..REFERENCE
+    };
+    assert_eq!(caught_in_programs(&sixteen), [false, true, false, false]);
+    let seven = Library {
+        validate: |page| exchanged((REFERENCE.validate)(page), 16, 7),
+        ..REFERENCE
+    };
+    assert_eq!(caught_in_programs(&seven), [false, true, false, false]);
+    // Knows no programs: kind 7 is unknown.
+    let old = Library {
+        validate: |page| match page.chunks(512).position(|block| block[0] == 7) {
+            Some(block) => Err(Refusal {
+                number: 3,
+                block: block as u32,
+            }),
+            None => (REFERENCE.validate)(page),
+        },
+        run: |words, components| match words {
+            [_, 12, ..] => Err(refusal(11)),
+            _ => (REFERENCE.run)(words, components),
+        },
+        ..REFERENCE
+    };
+    assert_eq!(caught_in_programs(&old), [true; 4]);
+    // Answers where words are ill-formed.
+    let lax = Library {
+        run: |words, components| match (REFERENCE.run)(words, components) {
+            Err(Refusal { number: 11, .. }) => Ok(BLACK),
+            reply => reply,
+        },
+        ..REFERENCE
+    };
+    assert_eq!(caught_in_programs(&lax), [false, false, true, true]);
+    // Takes one operator for another: ge for gt, or for and.
+    for other in [
+        Library {
+            run: |words, components| (REFERENCE.run)(&recoded(words, 12, 13), components),
+            ..REFERENCE
+        },
+        Library {
+            run: |words, components| (REFERENCE.run)(&recoded(words, 16, 17), components),
+            ..REFERENCE
+        },
+    ] {
+        assert!(caught_in_programs(&other)[3]);
+        // Random forms tell it too, enough of them.
+        assert!(programs::flat_forms(&other, &mut Rng::new(16), 100_000).is_err());
+    }
+    // Forgets that a tint was pulled in.
+    let forgetful = Library {
+        run: |words, components| {
+            (REFERENCE.run)(words, components).map(|colour| match words {
+                [_, 12, ..] => saying(false, colour),
+                _ => colour,
+            })
+        },
+        ..REFERENCE
+    };
+    assert_eq!(caught_in_programs(&forgetful), [true, false, true, false]);
+}
+
+/// "1,084 words run, 1,085 are 11": with programs and without.
+#[test]
+fn a_wrong_limit_of_words_is_caught() {
+    let caught = |library: &Library| compare::run(library, &mut Rng::new(15), 4_000).is_err();
+    assert!(!caught(&REFERENCE));
+    let before = Library {
+        run: |words, components| match words.len() {
+            1046.. => Err(refusal(11)),
+            _ => (REFERENCE.run)(words, components),
+        },
+        ..REFERENCE
+    };
+    assert!(caught(&before));
+    let one_less = Library {
+        run: |words, components| match words.len() {
+            1084.. => Err(refusal(11)),
+            _ => (REFERENCE.run)(words, components),
+        },
+        ..REFERENCE
+    };
+    assert!(caught(&one_less));
+    let one_more = Library {
+        run: |words, components| match words.len() {
+            1085 => Ok(BLACK),
+            _ => (REFERENCE.run)(words, components),
+        },
+        ..REFERENCE
+    };
+    assert!(caught(&one_more));
 }
 
 #[test]

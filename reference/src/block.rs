@@ -12,7 +12,7 @@ use crate::numbers::{read_four, read_two, write_four, write_two};
 
 /// The bytes of one block.
 pub const BLOCK: usize = 512;
-/// The bytes of a block's body, all of which a palette block fills.
+/// The bytes of a block's body, all of which a palette block or a program block fills.
 pub const BODY: usize = 504;
 /// The bytes set aside for a Separation's name, the last of them always zero.
 pub const NAME: usize = 128;
@@ -78,7 +78,7 @@ pub enum Body {
     Separation {
         /// The reference to the alternate space.
         alternate: u16,
-        /// The exponent in whole units.
+        /// The exponent in whole units; by document 02 0 means a program.
         exponent: u8,
         /// How many bytes the name has.
         name_length: u8,
@@ -89,16 +89,19 @@ pub enum Body {
     },
     /// Kind 6: a part of a palette, kept in the record's bytes.
     Palette,
+    /// Document 02's kind 7: a part of a program's text, kept in the record's bytes.
+    Program,
 }
 
-/// One record: the block's own number, what it records, and the bytes of a name or of a palette.
+/// One record: the block's own number, what it records, and the bytes of a name, of a palette or of a program's text.
 #[derive(Clone, Copy, Debug, PartialEq, Eq)]
 pub struct Record {
     /// The block's own number, below [`MOST_BLOCKS`] in an accepted record.
     pub number: u16,
     /// What the block records.
     pub body: Body,
-    /// A Separation's name in the first 128 places, a palette's bytes in all 504; every other place is zero.
+    /// A Separation's name in the first 128 places, a palette's or a program's bytes in all 504; every other place is
+    /// zero.
     pub bytes: [u8; BODY],
 }
 
@@ -115,7 +118,7 @@ fn write_row(block: &mut [u8; BLOCK], at: usize, row: &[i32]) {
 }
 
 impl Body {
-    /// The number of this body's kind, 0 to 6.
+    /// The number of this body's kind, 0 to 7.
     pub fn kind(&self) -> u8 {
         match self {
             Body::Free => 0,
@@ -125,6 +128,7 @@ impl Body {
             Body::Indexed { .. } => 4,
             Body::Separation { .. } => 5,
             Body::Palette => 6,
+            Body::Program => 7,
         }
     }
 
@@ -160,6 +164,7 @@ impl Body {
                 c1: read_row(block, 152),
             },
             6 => Body::Palette,
+            7 => Body::Program,
             _ => return None,
         };
         Some(body)
@@ -184,7 +189,7 @@ impl Record {
             Body::Separation { .. } => {
                 bytes[..NAME].copy_from_slice(&block[NAME_AT..NAME_AT + NAME]);
             }
-            Body::Palette => bytes.copy_from_slice(&block[BODY_AT..CHECK_AT]),
+            Body::Palette | Body::Program => bytes.copy_from_slice(&block[BODY_AT..CHECK_AT]),
             _ => {}
         }
         Some(Record {
@@ -196,7 +201,7 @@ impl Record {
 }
 
 /// The block of a record by the same table, check and all, whether or not the record is one to be written.
-/// The record's bytes are laid where a name or a palette lies, and nowhere else.
+/// The record's bytes are laid where a name, a palette or a program's text lies, and nowhere else.
 pub fn lay(record: &Record) -> [u8; BLOCK] {
     let mut block = [0; BLOCK];
     block[0] = record.body.kind();
@@ -250,7 +255,9 @@ pub fn lay(record: &Record) -> [u8; BLOCK] {
             write_row(&mut block, 136, c0);
             write_row(&mut block, 152, c1);
         }
-        Body::Palette => block[BODY_AT..CHECK_AT].copy_from_slice(&record.bytes),
+        Body::Palette | Body::Program => {
+            block[BODY_AT..CHECK_AT].copy_from_slice(&record.bytes);
+        }
     }
     seal(&mut block);
     block

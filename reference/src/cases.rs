@@ -20,14 +20,15 @@
 //! digits each; after operations 31 and 33 then ` moved` where a limiting moved something. Or it is `refused N block B`.
 //!
 //! A record is its own number, its kind and the body's numbers in the paper's order (base hival; alternate
-//! exponent name-length C0 C1), then bytes: read, a Separation's 128 name places or a palette's 504; to be
-//! written, the first of the record's 504 places, those missing being zero.
+//! exponent name-length C0 C1), then bytes: read, a Separation's 128 name places or a palette's or program's
+//! 504; to be written, the first of the record's 504 places, those missing being zero.
 //!
 //! How a case is written stands in `format`, what it must print in `interpreter`; `maker` gathers cases, and the
 //! other parts are the cases themselves.
 
 mod blocks;
 mod colours;
+mod flat;
 mod format;
 mod forms;
 mod inks;
@@ -38,6 +39,9 @@ mod moved;
 mod numbers;
 mod pages;
 mod paper;
+mod program_pages;
+mod program_texts;
+mod programs;
 mod recipes;
 mod runs;
 #[cfg(test)]
@@ -47,7 +51,8 @@ mod texts;
 pub use format::{answer_text, dotted, float_text, hex_of, reply_text, Case};
 
 /// All the worked cases, in the order in which they are put to the program: the paper's own, numbers and steps,
-/// one block by itself, pages, colours with their recipes, the Separations None and All, colours that are pulled in, inks by name, and designers' texts.
+/// one block by itself, pages, colours with their recipes, the Separations None and All, colours that are pulled in, inks by
+/// name, designers' texts, and calculator programs: their texts, their blocks, and step 12 of a recipe.
 pub fn all() -> Vec<Case> {
     let groups = [
         paper::cases,
@@ -62,6 +67,10 @@ pub fn all() -> Vec<Case> {
         moved::cases,
         inks::cases,
         texts::cases,
+        program_texts::cases,
+        programs::cases,
+        program_pages::cases,
+        flat::cases,
     ];
     groups.iter().flat_map(|make| make()).collect()
 }

@@ -1,4 +1,5 @@
-//! Answering a colour on a page: document 01's "Colour steps", and document 02's None and All and what is pulled in.
+//! Answering a colour on a page: document 01's "Colour steps", and document 02's None and All, programs, and what is
+//! pulled in.
 
 use crate::block::Body;
 use crate::cie::{cal_gray, cal_rgb, lab, Answer};
@@ -6,7 +7,10 @@ use crate::gamma::tenths;
 use crate::numbers::{
     float_of, index, index_moves, limit, moves, palette_value, tint_power, tint_value, ONE,
 };
-use crate::page::{body_at, components, family, name_at, palette_byte, ranges, validate, Family};
+use crate::page::{
+    body_at, components, family, name_at, palette_byte, program_at, ranges, validate, Family,
+};
+use crate::program::results;
 
 /// A colour's answer, with document 02's "one yes or no: some limiting, at any level, moved something".
 #[derive(Clone, Copy, Debug, PartialEq, Eq)]
@@ -71,7 +75,11 @@ pub fn answer(page: &[u8], number: u32, values: [i32; 4]) -> Reply {
         }),
         (Some(body @ Body::Separation { alternate, .. }), _) => {
             let tint = limit(first, 0, ONE);
-            let inner = answer(page, u32::from(alternate), tinted(&body, tint))?;
+            let values = match body {
+                Body::Separation { exponent: 0, .. } => calculated(page, number, tint),
+                _ => tinted(&body, tint),
+            };
+            let inner = answer(page, u32::from(alternate), values)?;
             Ok(inner.after(moves(first, 0, ONE)))
         }
         _ => plain(page, number, values),
@@ -139,4 +147,11 @@ fn tinted(separation: &Body, tint: i32) -> [i32; 4] {
     };
     let q = tint_power(tint, *exponent);
     std::array::from_fn(|k| tint_value(c0[k], c1[k], q))
+}
+
+/// The alternate components that a program makes of a limited tint: it "takes one limited tint and leaves the alternate's
+/// count of numbers, the first deepest".
+fn calculated(page: &[u8], separation: u32, tint: i32) -> [i32; 4] {
+    let left = program_at(page, separation).and_then(|program| results(&program, tint));
+    values_of(&left.unwrap_or_default())
 }

@@ -1,8 +1,9 @@
 //! Random input for the tests and the comparison: pages, records, colours and recipes, accepted ones and ones broken in
-//! one of many ways.
+//! one of many ways. What has document 02's programs in it is in [`programs`].
 
 mod damage;
 mod pages;
+pub mod programs;
 mod recipes;
 mod rng;
 

@@ -5,7 +5,7 @@
 //! quoted above it, and nothing is done for speed. The operations take any input whatever and come back with a reply.
 //!
 //! Document 01's order: [`numbers`], [`block`], [`page`], [`cie`], [`colour`], [`recipe`], [`runner`], [`listing`];
-//! document 02's: [`gamma`], [`inks`].
+//! document 02's: [`gamma`], [`inks`], [`text`], [`program`].
 //! The rest serves tests and texts: [`generate`], [`records`], [`cases`], [`samples`].
 #![forbid(unsafe_code)]
 
@@ -20,6 +20,7 @@ pub mod listing;
 pub mod numbers;
 pub mod page;
 pub mod passed;
+pub mod program;
 pub mod recipe;
 pub mod records;
 pub mod runner;

@@ -1,5 +1,9 @@
 //! A page of 1 to 128 "blocks of 512 bytes" (2026-09): the spaces on it, and judging it.
 
+mod programs;
+
+pub use programs::{judged_program, program_at, program_text, MOST_PROGRAM_BLOCKS};
+
 use crate::block::{
     check_holds, form_holds, Body, BLOCK, BODY, BODY_AT, DEVICE_CMYK, DEVICE_GRAY, DEVICE_RGB,
     MOST_BLOCKS, NAME_AT,
@@ -51,7 +55,7 @@ impl Family {
         }
     }
 
-    /// The family of a block of this kind; none for free blocks, palettes and unknown kinds.
+    /// The family of a block of this kind; none for free blocks, palettes, programs and unknown kinds.
     pub fn of_kind(kind: u8) -> Option<Family> {
         match kind {
             1 => Some(Family::CalGray),
@@ -180,17 +184,26 @@ fn reference_holds(page: &[u8], body: &Body) -> bool {
 }
 
 /// What refusal 7 looks at: "the palette run is short or its spare bytes not zero; a stray palette block; C0 or C1
-/// entries past the alternate's count not zero".
+/// entries past the alternate's count not zero". By document 02 of a program "C0 and C1 are then zero, else 7", and a
+/// stray program block's fault is "its own".
 fn run_or_entries_hold(page: &[u8], number: usize, body: &Body) -> bool {
     match body {
         Body::Indexed { base, hival } => {
             palette_holds(page, number, palette_length(page, *base, *hival))
         }
         Body::Palette => in_a_run(page, number),
+        Body::Program => programs::in_a_program_run(page, number),
         Body::Separation {
-            alternate, c0, c1, ..
+            alternate,
+            exponent,
+            c0,
+            c1,
+            ..
         } => {
-            let count = components(page, u32::from(*alternate)).unwrap_or(4);
+            let count = match exponent {
+                0 => 0,
+                _ => components(page, u32::from(*alternate)).unwrap_or(4),
+            };
             c0[count..].iter().chain(&c1[count..]).all(|v| *v == 0)
         }
         _ => true,
@@ -208,7 +221,8 @@ fn first_pass(number: usize, block: &[u8; BLOCK]) -> Result<(), u32> {
     Ok(())
 }
 
-/// The first refusal of a block by what it records: "4, 5, 6, 7".
+/// The first refusal of a block by what it records: "4, 5, 6, 7"; by document 02 a program's 16 and 17 come "after 6 and
+/// before 7", and its run's 7 before them.
 fn second_pass(page: &[u8], number: usize, block: &[u8; BLOCK]) -> Result<(), u32> {
     let body = Body::of(block).ok_or(3u32)?;
     if let Some(refusal) = body.number_refusal() {
@@ -216,6 +230,14 @@ fn second_pass(page: &[u8], number: usize, block: &[u8; BLOCK]) -> Result<(), u3
     }
     if !reference_holds(page, &body) {
         return Err(6);
+    }
+    if let Body::Separation {
+        alternate,
+        exponent: 0,
+        ..
+    } = body
+    {
+        judged_program(page, number as u32, alternate)?;
     }
     if !run_or_entries_hold(page, number, &body) {
         return Err(7);

@@ -11,7 +11,7 @@ pub const NUMBERS: usize = 20;
 /// How many of the numbers a kind names, own number and kind among them; none for an unknown kind.
 fn named(kind: i32) -> Option<usize> {
     match kind {
-        0 | 6 => Some(2),
+        0 | 6 | 7 => Some(2),
         1 => Some(2 + 3 + 3 + 1),
         2 => Some(2 + 3 + 3 + 3 + 9),
         3 => Some(2 + 3 + 3 + 4),
@@ -40,7 +40,7 @@ fn number_refusal(numbers: &[i32; NUMBERS]) -> Option<u32> {
         (3, numbers[used..].iter().all(|number| *number == 0)),
         (3, kind != 5 || (1..=127).contains(&third)),
         (4, kind != 4 || (0..=255).contains(&second)),
-        (5, kind != 5 || (1..=4).contains(&second)),
+        (5, kind != 5 || (0..=4).contains(&second)),
         (6, !(kind == 4 || kind == 5) || refers(first)),
     ];
     let broken = rules.iter().find(|(_, holds)| !holds);
@@ -85,6 +85,7 @@ fn body(numbers: &[i32; NUMBERS]) -> Body {
             c1: row(numbers, 9),
         },
         6 => Body::Palette,
+        7 => Body::Program,
         _ => Body::Free,
     }
 }
@@ -161,6 +162,7 @@ mod tests {
             (&[0, 4, 0xff01, 3], false),
             (&[0, 5, 0xff01, 1, 3, 0, 0, 0, 0, 0, 0, 0, 0], true),
             (&[0, 6], false),
+            (&[0, 7], false),
         ] {
             assert_eq!(refusal(row, name), 0);
             for place in row.len()..NUMBERS {

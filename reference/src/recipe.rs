@@ -2,10 +2,13 @@
 
 use crate::block::Body;
 use crate::numbers::palette_value;
-use crate::page::{body_at, components, family, name_at, palette_byte, ranges, validate, Family};
+use crate::page::{
+    body_at, components, family, name_at, palette_byte, program_at, ranges, validate, Family,
+};
+use crate::program::words_of;
 
-/// "A recipe longer than 1,045 words is ill-formed."
-pub const MOST_WORDS: usize = 1045;
+/// "A recipe longer than 1,045 words is ill-formed"; by document 02 "the limit of 1,045 words .. becomes 1,084".
+pub const MOST_WORDS: usize = 1084;
 
 /// The recipe of a space as its own run of words: "A recipe: judge, 8", and "its count, limits in component order, the
 /// closing step. Indexed puts step 2 and Separation step 3 in place of their limits, before those of the inner space."
@@ -45,6 +48,15 @@ fn steps(page: &[u8], number: u32) -> Vec<i32> {
         }
         Some(Body::Separation {
             alternate,
+            exponent: 0,
+            ..
+        }) => {
+            let alternate = u32::from(alternate);
+            let m = components(page, alternate).unwrap_or(0);
+            [program(page, number, m), steps(page, alternate)].concat()
+        }
+        Some(Body::Separation {
+            alternate,
             exponent,
             c0,
             c1,
@@ -58,6 +70,12 @@ fn steps(page: &[u8], number: u32) -> Vec<i32> {
         }
         _ => [limits(page, number), closing(page, number)].concat(),
     }
+}
+
+/// "That step is 12, the count of numbers left (1..4), the count of words that follow, then those."
+fn program(page: &[u8], separation: u32, m: usize) -> Vec<i32> {
+    let words = program_at(page, separation).map_or(Vec::new(), |program| words_of(&program));
+    [vec![12, m as i32, words.len() as i32], words].concat()
 }
 
 /// "2 m h and m(h + 1) entries": each palette byte's value in the base's range, row by row.

@@ -122,6 +122,26 @@ pub fn indexed_run(number: u16, base: u16, hival: u16, palette_bytes: &[u8]) -> 
     run
 }
 
+/// A program block with these first bytes, as many of them as it holds.
+pub fn program(number: u16, bytes: &[u8]) -> Record {
+    Record {
+        body: Body::Program,
+        ..palette(number, bytes)
+    }
+}
+
+/// A Separation named Gold with exponent 0, and the blocks that hold its program's text.
+pub fn program_run(number: u16, alternate: u16, text: &[u8]) -> Vec<Record> {
+    let mut run = vec![separation(number, alternate, 0, [0; 4], [0; 4])];
+    let parts = text.chunks(BODY);
+    run.extend(
+        (number + 1..)
+            .zip(parts)
+            .map(|(at, part)| program(at, part)),
+    );
+    run
+}
+
 /// The page of these records.
 pub fn page(records: &[Record]) -> Vec<u8> {
     records.iter().flat_map(lay).collect()

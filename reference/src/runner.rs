@@ -1,5 +1,7 @@
 //! Running a recipe: no page and no other storage.
 
+pub mod flat;
+
 use crate::cie::{cal_gray, cal_rgb, lab, Answer};
 use crate::colour::{values_of, Colour, Reply};
 use crate::gamma::tenths;
@@ -44,6 +46,14 @@ pub enum Step<'a> {
         c0: &'a [i32],
         /// The results of tint 1.
         c1: &'a [i32],
+    },
+    /// Document 02's 12: "the count of numbers left (1..4), the count of words that follow, then those". "It limits its
+    /// input to 0..1 first; results replace the values from 0."
+    Program {
+        /// How many numbers are left.
+        m: usize,
+        /// The flat form, which is well-formed.
+        words: &'a [i32],
     },
 }
 
@@ -108,6 +118,11 @@ pub fn step(words: &[i32]) -> Option<(Step<'_>, &[i32])> {
             let (c1, rest) = rest.split_at_checked(m)?;
             Some((Step::Tint { e, c0, c1 }, rest))
         }
+        [12, m, n, ref rest @ ..] => {
+            let (m, n) = (one_to_four(m)?, usize::try_from(n).ok()?);
+            let (words, rest) = rest.split_at_checked(n)?;
+            flat::holds(words, m).then_some((Step::Program { m, words }, rest))
+        }
         _ => None,
     }
 }
@@ -136,7 +151,8 @@ pub fn closing(words: &[i32]) -> Option<Closing> {
     }
 }
 
-/// Reads a recipe; none where it is ill-formed. "A recipe longer than 1,045 words is ill-formed."
+/// Reads a recipe; none where it is ill-formed. "A recipe longer than 1,045 words is ill-formed"; by document 02 that
+/// limit "becomes 1,084".
 fn read(words: &[i32]) -> Option<Recipe<'_>> {
     if words.len() > MOST_WORDS {
         return None;
@@ -176,12 +192,12 @@ pub fn run(words: &[i32], colour: &[i32]) -> Reply {
 }
 
 /// Whether the limiting in a step moves something, for the values before it: the limited value of step 1, the rounded
-/// index of step 2, the tint of step 3.
+/// index of step 2, the tint of steps 3 and 12; not what "the nearer end in a gamma or in a program's arithmetic" does.
 fn limiting_moves(step: &Step<'_>, values: &[i32; 4]) -> bool {
     match *step {
         Step::Limit { k, lo, hi } => moves(values[k], lo, hi),
         Step::Rows { h, .. } => index_moves(values[0], h),
-        Step::Tint { .. } => moves(values[0], 0, ONE),
+        Step::Tint { .. } | Step::Program { .. } => moves(values[0], 0, ONE),
     }
 }
 
@@ -197,6 +213,12 @@ fn take(step: &Step<'_>, values: &mut [i32; 4]) {
             let q = tint_power(limit(values[0], 0, ONE), e);
             for (k, (c0, c1)) in c0.iter().zip(c1).enumerate() {
                 values[k] = tint_value(*c0, *c1, q);
+            }
+        }
+        Step::Program { m, words } => {
+            let left = flat::run(words, limit(values[0], 0, ONE));
+            for (value, left) in values.iter_mut().take(m).zip(left) {
+                *value = left;
             }
         }
     }

@@ -1,5 +1,7 @@
 //! Pages to try, and what is said of them.
 
+mod varnish;
+
 use crate::block::{Record, BLOCK, BODY, DEVICE_CMYK, DEVICE_GRAY, DEVICE_RGB, MOST_BLOCKS};
 use crate::cie::Answer;
 use crate::colour::{evaluate, Reply};
@@ -134,8 +136,13 @@ pub fn all() -> Vec<Sample> {
             marks_page(),
         ),
         sample(
+            "varnish",
+            "A varnish job, whose tints are calculator programs: Gloss varnish (block 0) over DeviceCMYK, with a text of two blocks, Matt varnish (block 3) over a Lab space (block 5), and an Indexed space (block 6) over the first.",
+            varnish::varnish_page(),
+        ),
+        sample(
             "large",
-            "An Indexed space over DeviceCMYK with hival 255: 1,024 palette bytes in three blocks, and the longest recipe.",
+            "An Indexed space over DeviceCMYK with hival 255: 1,024 palette bytes in three blocks, and the longest recipe that a page has.",
             page(&indexed_run(0, DEVICE_CMYK, 255, &palette_bytes(1024))),
         ),
         sample(
@@ -200,6 +207,12 @@ const COLOURS: &[(&str, u32, &[i32])] = &[
     ("marks", 2, &[ONE]),
     ("marks", 2, &[-ONE]),
     ("marks", 4, &[ONE]),
+    ("varnish", 0, &[40_000]),
+    ("varnish", 0, &[500_000]),
+    ("varnish", 0, &[1_200_000]),
+    ("varnish", 3, &[250_000]),
+    ("varnish", 3, &[ONE]),
+    ("varnish", 6, &[2_500_000]),
     ("large", 0, &[181 * ONE]),
     ("nested", 0, &[2_500_000]),
     ("nested", 2, &[ONE]),
@@ -357,9 +370,9 @@ Pages and texts to try. `NAME.page` is a page of 512-byte blocks, `NAME.txt` bes
 
 `colour.c` is a C program that evaluates a colour, writes the space's recipe, runs it and prints both answers, with the word `moved` after one whose
 colour was pulled in. `run.c` runs a recipe that it wrote, with the plate setter's library alone. `ink.c` asks for an ink by its name, of a job's page and
-a house page. `edges.c` checks the C interface at its edges. With the libraries in `target/staticlib/` (`rt staticlib sktelbaan` and `rt staticlib
-sktelbaan_runner` put them there), `samples/build` compiles all four, runs the first two on the colours of `colours.txt` and the third on the inks of
-`inks.txt`, and compares what they print with these texts.
+a house page. `edges.c` checks the C interface at its edges, and `stack.c` measures the machine's stack that a run takes. With the libraries in
+`target/staticlib/` (`rt staticlib sktelbaan` and `rt staticlib sktelbaan_runner` put them there), `samples/build` compiles all five, runs the first two
+on the colours of `colours.txt` and the third on the inks of `inks.txt`, and compares what they print with these texts.
 
 `deck.txt` and `refused.txt` are designers' texts, written by hand. `deck.lst` has what is printed by
 

@@ -69,10 +69,12 @@ fn writing_refuses_forms_with_3() {
             assert_eq!(written(&made), Err(3));
         }
     }
-    // A palette may use all its bytes, a name none past its length.
-    let mut made = record(0, Body::Palette);
-    made.bytes = [255; 504];
-    assert_eq!(written(&made), Ok(()));
+    // A palette and a program may use all their bytes, a name none past its length.
+    for body in [Body::Palette, Body::Program] {
+        let mut made = record(0, body);
+        made.bytes = [255; 504];
+        assert_eq!(written(&made), Ok(()));
+    }
     for place in [4, 126, 127, 128, 503] {
         let mut made = gold();
         made.bytes[place] = 1;
@@ -141,7 +143,8 @@ fn writing_refuses_numbers_with_4_and_5() {
     assert_eq!(written(&indexed(0, 255)), Ok(()));
     assert_eq!(written(&indexed(0, 256)), Err(4));
     assert_eq!(written(&indexed(0, 0xffff)), Err(4));
-    for (exponent, expected) in [(0, Err(5)), (1, Ok(())), (4, Ok(())), (5, Err(5))] {
+    // An exponent of 0 means a program, which is not looked at here.
+    for (exponent, expected) in [(0, Ok(())), (1, Ok(())), (4, Ok(())), (5, Err(5))] {
         assert_eq!(
             written(&separation(0, DEVICE_GRAY, exponent, [1; 4], [2; 4])),
             expected
@@ -201,7 +204,7 @@ fn reading_refuses_the_check_with_2_first() {
 
 #[test]
 fn reading_refuses_forms_with_3() {
-    for kind in 7..=255 {
+    for kind in 8..=255 {
         assert_eq!(
             changed(&record(0, Body::Free), |block| block[0] = kind),
             Err(3)
@@ -257,7 +260,7 @@ fn reading_refuses_numbers_and_references_as_writing_does() {
     );
     assert_eq!(changed(&indexed(0, 0), |block| block[6] = 1), Err(4));
     assert_eq!(changed(&indexed(0, 0), |block| block[4] = 1), Err(6));
-    assert_eq!(changed(&gold(), |block| block[6] = 0), Err(5));
+    assert_eq!(changed(&gold(), |block| block[6] = 5), Err(5));
     assert_eq!(changed(&gold(), |block| block[5] = 2), Err(6));
 }
 

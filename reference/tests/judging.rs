@@ -5,6 +5,7 @@ mod common;
 use common::*;
 use reference::block::{Body, BLOCK, DEVICE_CMYK, DEVICE_GRAY, DEVICE_RGB, MOST_BLOCKS};
 use reference::colour::evaluate;
+use reference::generate::programs::{damage_program_page, random_program_page_of};
 use reference::generate::{damage, random_page, Rng};
 use reference::numbers::ONE;
 use reference::page::{components, spaces, validate, Family};
@@ -60,11 +61,11 @@ fn faults(page: &[u8]) -> Vec<(u32, u32, u32)> {
             3 => &[4..16, 16..28, 28..44],
             4 => &[4..6, 6..8],
             5 => &[4..6, 6..7, 7..8, 8..136, 136..152, 152..168],
-            6 => &[4..100, 100..508],
+            6 | 7 => &[4..100, 100..508],
             _ => &[],
         };
         let unnamed = (4..508).any(|i| byte(n, i) != 0 && !named.iter().any(|r| r.contains(&i)));
-        if kind > 6 || byte(n, 1) != 0 || two(n, 2) != n as i128 || unnamed {
+        if kind > 7 || byte(n, 1) != 0 || two(n, 2) != n as i128 || unnamed {
             fault(1, 3);
         }
         if kind == 5 {
@@ -123,11 +124,30 @@ fn faults(page: &[u8]) -> Vec<(u32, u32, u32)> {
                 }
             }
             5 => {
-                if !(1..=4).contains(&byte(n, 6)) {
+                if byte(n, 6) > 4 {
                     fault(2, 5);
                 }
                 match space(two(n, 4)) {
                     None | Some((_, 4 | 5)) => fault(2, 6),
+                    Some((m, _)) if byte(n, 6) == 0 => {
+                        let mut text = Vec::new();
+                        let mut ill = false;
+                        for at in (n + 1..n + 5).take_while(|at| *at < count && byte(*at, 0) == 7) {
+                            in_a_run[at] = true;
+                            // The text goes on from block to block, so that the block before is full.
+                            ill |= text.contains(&0) || byte(at, 4) == 0;
+                            text.extend_from_slice(&page[512 * at + 4..512 * at + 508]);
+                        }
+                        let end = text.iter().position(|b| *b == 0).unwrap_or(text.len());
+                        ill |= text.is_empty() || text[end..].iter().any(|b| *b != 0);
+                        let numbers = (0..8).any(|k| four(n, 136 + 4 * k) != 0);
+                        match reference::program::judge(&text[..end], m as usize) {
+                            _ if ill => fault(2, 7),
+                            Err(number) => fault(2, number),
+                            Ok(_) if numbers => fault(2, 7),
+                            Ok(_) => {}
+                        }
+                    }
                     Some((m, _)) => {
                         let past = (m as usize..4)
                             .any(|k| four(n, 136 + 4 * k) != 0 || four(n, 152 + 4 * k) != 0);
@@ -137,7 +157,7 @@ fn faults(page: &[u8]) -> Vec<(u32, u32, u32)> {
                     }
                 }
             }
-            6 if !in_a_run[n] => fault(2, 7),
+            6 | 7 if !in_a_run[n] => fault(2, 7),
             _ => {}
         }
     }
@@ -198,7 +218,7 @@ fn random_pages_are_accepted_and_hold_every_family() {
 #[test]
 fn damaged_pages_are_judged_alike() {
     let mut rng = Rng::new(3);
-    let mut reached = [0; 12];
+    let mut reached = [0; 18];
     let mut last_blocks = 0usize;
     for _ in 0..ROUNDS {
         let mut page = random_page(&mut rng);
@@ -227,6 +247,31 @@ fn damaged_pages_are_judged_alike() {
         );
     }
     assert!(last_blocks > ROUNDS / 30);
+}
+
+#[test]
+fn damaged_pages_with_programs_are_judged_alike() {
+    let mut rng = Rng::new(15);
+    let mut reached = [0; 18];
+    for _ in 0..ROUNDS / 10 {
+        let blocks = 1 + rng.below(16);
+        let mut page = random_program_page_of(&mut rng, blocks);
+        let mut ways = Vec::new();
+        for _ in 0..rng.below(3) {
+            ways.push(damage_program_page(&mut rng, &mut page));
+        }
+        if rng.once_in(4) {
+            ways.push(damage(&mut rng, &mut page));
+        }
+        let expected = slow(&page);
+        assert_eq!(validate(&page), expected, "{ways:?}");
+        let number = expected.err().map_or(0, |(number, _)| number);
+        reached[number as usize] += 1;
+    }
+    for number in [0, 2, 3, 5, 6, 7, 16, 17] {
+        let count = reached[number];
+        assert!(count > 5, "refusal {number} was met {count} times");
+    }
 }
 
 #[test]

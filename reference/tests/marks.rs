@@ -130,7 +130,9 @@ fn records_are_judged_as_before() {
         assert_eq!(validate(&made(name, 0, [0; 4])), Err((6, 0)));
         assert_eq!(validate(&made(name, 1, [0; 4])), Err((6, 0)));
         let no_exponent = page_with(&[over_cmyk(0, name)], 0, |block| block[6] = 0);
-        assert_eq!(validate(&no_exponent), Err((5, 0)));
+        assert_eq!(validate(&no_exponent), Err((7, 0)), "no program");
+        let much = page_with(&[over_cmyk(0, name)], 0, |block| block[6] = 5);
+        assert_eq!(validate(&much), Err((5, 0)));
     }
 }
 

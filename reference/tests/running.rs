@@ -1,11 +1,15 @@
 //! Running recipes, against a slow second runner that takes one word at a time.
 
 mod common;
+mod flat;
 
 use common::{kept, moved};
 use reference::block::{DEVICE_CMYK, DEVICE_GRAY, DEVICE_RGB};
 use reference::cie::Answer;
 use reference::colour::{evaluate, Colour, Reply};
+use reference::generate::programs::{
+    damage_program_recipe, long_program_recipe, random_program_recipe,
+};
 use reference::generate::{
     damage_recipe, long_recipe, random_components, random_page, random_recipe, Rng,
 };
@@ -158,8 +162,7 @@ fn ill_formed_recipes_are_11() {
 }
 
 #[test]
-fn a_recipe_of_more_than_1045_words_is_11() {
-    // A closing step after 260 limits is 1042 words; a tint step of 5 would be 1047.
+fn a_recipe_of_more_than_1084_words_is_11() {
     let limits = |count: usize| {
         let mut words = vec![1];
         for _ in 0..count {
@@ -167,24 +170,24 @@ fn a_recipe_of_more_than_1045_words_is_11() {
         }
         words
     };
-    let mut words = limits(258);
+    let mut words = limits(268);
+    words.extend([2, 1, 5, 1, 1, 1, 1, 1, 1, 4]);
+    assert_eq!(words.len(), 1083);
+    assert_eq!(run(&words, &[0]), kept(Answer::Gray(float_of(1))));
+    let mut words = limits(268);
     words.extend([2, 1, 6, 1, 1, 1, 1, 1, 1, 1, 4]);
-    assert_eq!(words.len(), 1044);
+    assert_eq!(words.len(), 1084);
     assert_eq!(run(&words, &[0]), kept(Answer::Gray(float_of(1))));
-    let mut words = limits(258);
+    let mut words = limits(268);
     words.extend([2, 1, 7, 1, 1, 1, 1, 1, 1, 1, 1, 4]);
-    assert_eq!(words.len(), 1045);
-    assert_eq!(run(&words, &[0]), kept(Answer::Gray(float_of(1))));
-    let mut words = limits(258);
-    words.extend([2, 1, 8, 1, 1, 1, 1, 1, 1, 1, 1, 1, 4]);
-    assert_eq!(words.len(), 1046);
+    assert_eq!(words.len(), 1085);
     assert_eq!(run(&words, &[0]), ELEVEN);
     assert_eq!(run(&vec![4; 100_000], &[0]), ELEVEN);
 }
 
 /// A slow second runner: words taken one at a time, exact fractions in i128. None is 11.
 fn slow(words: &[i32], colour: &[i32]) -> Option<Reply> {
-    if words.len() > 1045 {
+    if words.len() > 1084 {
         return None;
     }
     let mut queue = words.iter().map(|word| i128::from(*word));
@@ -305,6 +308,24 @@ fn slow(words: &[i32], colour: &[i32]) -> Option<Reply> {
                 );
                 break Answer::Xyz([float(xw) * first, second, float(zw) * third]);
             }
+            12 => {
+                let (m, n) = (queue.next()?, queue.next()?);
+                if !(1..5).contains(&m) || n < 0 {
+                    return None;
+                }
+                let program: Vec<i32> = (0..n)
+                    .map_while(|_| queue.next())
+                    .map(|word| word as i32)
+                    .collect();
+                if program.len() as i128 != n || !flat::holds(&program, m as usize) {
+                    return None;
+                }
+                limited.push((values[0], 0, 1_000_000));
+                let left = flat::run(&program, values[0].clamp(0, 1_000_000) as i32)?;
+                for (value, left) in values.iter_mut().zip(left) {
+                    *value = left.into();
+                }
+            }
             10 => break Answer::NoMark,
             11 => break Answer::EveryInk(float(values[0])),
             _ => return None,
@@ -398,11 +419,47 @@ fn random_recipes_run_alike() {
 }
 
 #[test]
+fn random_recipes_with_programs_run_alike() {
+    let mut rng = Rng::new(16);
+    let (mut answered, mut ill) = (0, 0);
+    for round in 0..20_000 {
+        let mut words = random_program_recipe(&mut rng);
+        assert!(words.len() <= MOST_WORDS);
+        let count = words[0] as usize;
+        if round % 2 == 1 {
+            damage_program_recipe(&mut rng, &mut words);
+        }
+        let colour = random_components(&mut rng, count);
+        let reply = run(&words, &colour);
+        assert_eq!(reply, slow(&words, &colour).unwrap_or(ELEVEN), "{words:?}");
+        answered += u32::from(reply.is_ok());
+        ill += u32::from(reply == ELEVEN);
+        assert!(round % 2 == 1 || reply.is_ok(), "{words:?}");
+    }
+    assert!(answered > 10_000 && ill > 4_000, "{answered} {ill}");
+}
+
+#[test]
 fn long_recipes_have_the_words_that_are_asked_for() {
     let mut rng = Rng::new(13);
     for length in (30..200).chain(1_000..1_100) {
         for _ in 0..20 {
             let words = long_recipe(&mut rng, length);
+            assert_eq!(words.len(), length);
+            let colour = random_components(&mut rng, words[0] as usize);
+            let reply = run(&words, &colour);
+            assert_eq!(reply, slow(&words, &colour).unwrap_or(ELEVEN), "{words:?}");
+            assert_eq!(reply == ELEVEN, length > MOST_WORDS);
+        }
+    }
+}
+
+#[test]
+fn long_recipes_with_programs_have_the_words_that_are_asked_for() {
+    let mut rng = Rng::new(17);
+    for length in (30..60).chain(1_075..1_095) {
+        for _ in 0..5 {
+            let words = long_program_recipe(&mut rng, length);
             assert_eq!(words.len(), length);
             let colour = random_components(&mut rng, words[0] as usize);
             let reply = run(&words, &colour);

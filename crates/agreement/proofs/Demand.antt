@@ -15,7 +15,7 @@ use Rattle.page.specs.Outcomes.{accepted}
 use Rattle.page.specs.Validation.{validated}
 use Rattle.page.proofs.WellMade.{well-made-at}
 use Rattle.space.specs.Numbers.{asked}
-use Rattle.space.specs.Spaces.{Space, none, gray, rgb, cmyk, calGray, calRgb, lab, noMark, everyInk, separation, indexed, countOf}
+use Rattle.space.specs.Spaces.{Space, none, gray, rgb, cmyk, calGray, calRgb, lab, noMark, everyInk, separation, calculated, indexed, countOf}
 use Rattle.space.specs.Pages.{spaceAt}
 use Rattle.space.specs.WellMade.{WellMade}
 use Rattle.space.proofs.Asked.{asked-space}
@@ -42,6 +42,7 @@ answers (lab k al ah bl bh) w v = tt
 answers noMark w v = tt
 answers everyInk w v = tt
 answers (separation e c0 c1 s) w v = answers s (w .4) _
+answers (calculated c s) w v = answers s (w .3) _
 answers (indexed h t s) w v = answers s (w .3) _
 
 module _ (page : List ℕ) (number : ℕ) (ok : validated page ≡ accepted) where

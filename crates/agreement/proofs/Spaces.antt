@@ -14,8 +14,11 @@ use Rattle.cie.specs.Answers.{refusal}
 use Rattle.fixed.specs.declared.values.Colour.{Colour}
 use Rattle.cie.specs.Closings.{closed}
 use Rattle.runner.specs.Runs.{runs, ran}
-use Rattle.runner.proofs.Runs.{count-run, limit-run, tint-run, row-run, device-gray-run, device-rgb-run, device-cmyk-run, gray-run, rgb-run, lab-run, no-mark-run, every-ink-run}
-use Rattle.space.specs.Spaces.{Space, none, gray, rgb, cmyk, calGray, calRgb, lab, noMark, everyInk, separation, indexed, countOf, limitCount, lowOf, highOf, pick3, closingOf}
+use Rattle.runner.proofs.Runs.{count-run, limit-run, tint-run, program-run, row-run, device-gray-run, device-rgb-run, device-cmyk-run, gray-run, rgb-run, lab-run, no-mark-run, every-ink-run}
+use Rattle.stack.specs.Flat.{flat}
+use Rattle.form.specs.Steps.{programStep}
+use Rattle.form.proofs.Filled.{flat-fitting, form-is-program}
+use Rattle.space.specs.Spaces.{Space, none, gray, rgb, cmyk, calGray, calRgb, lab, noMark, everyInk, separation, calculated, indexed, countOf, limitCount, lowOf, highOf, pick3, closingOf}
 use Rattle.space.specs.WellMade.{WellMade}
 use Rattle.space.proofs.Counts.{count-high, limits-high}
 use Rattle.recipe.specs.Recipes.{limitWords, limitsOf, closingWords, endsOf, stepsOf, recipeOf}
@@ -66,6 +69,7 @@ count-low (lab k al ah bl bh) w = omega arith
 count-low noMark w = omega arith
 count-low everyInk w = omega arith
 count-low (separation e c0 c1 s) w = omega arith
+count-low (calculated c s) w = omega arith
 count-low (indexed h t s) w = omega arith
 
 -- ---- the steps of a space, from any values on
@@ -84,6 +88,9 @@ steps-run everyInk w n c v = ends-run n c everyInk unit-range (every-ink-run n c
 steps-run (separation e c0 c1 s) w n c v =
     tint-run e (countOf s) c0 c1 (stepsOf s) (w .0) (count-low s (w .4)) (count-high s) (w .1) (w .2) n c v
     ∙ steps-run s (w .4) n c (tintStep e (countOf s) c0 c1 v)
+steps-run (calculated k s) w n c v =
+    program-run (countOf s) (length (flat k)) (flat k) (stepsOf s) refl (flat-fitting k (countOf s) (omega (arith, w .1)) ∙ w .0) n c v
+    ∙ (ap (runs n c (stepsOf s)) (form-is-program (countOf s) k v) ∙ steps-run s (w .3) n c (programStep (countOf s) k v))
 steps-run (indexed h t s) w n c v =
     row-run (countOf s) h t (stepsOf s) (count-low s (w .3)) (count-high s) (w .0) (w .1) n c v
     ∙ steps-run s (w .3) n c (rowStep (countOf s) h t v)

@@ -23,7 +23,7 @@ IsAnswer (refusal number block) = ⊥
 
 -- what the recipe of a number on a page does, n being its count of words
 pub record Serves (page : List ℕ) (number : ℕ) (recipe : List ℤ) : Type 0 where
-  -- "A recipe longer than 1,045 words is ill-formed": this one is not
+  -- "A recipe longer than 1,084 words is ill-formed" (1,045 before request 2026-06): this one is not
   pub short : length recipe ≤ longest
   -- "Lent n words or more, writing replies n and the first n of them are the recipe"; those after them are as they were
   pub written : (words : List ℤ) → length recipe ≤ length words → writeReply page number words ≡ wrote (length recipe)

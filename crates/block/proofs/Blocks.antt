@@ -30,15 +30,15 @@ head-length r = omega (arith, written-length (fields r), sizes-of (r .body) (r .
 -- ---- from a block
 
 module _ (b : List ℕ) (bytes : Bytes b) (k : wellLaid b ≡ true) where
-  kind : kindAt b ≤ 6
+  kind : kindAt b ≤ 7
   unfolding wellLaid
-  kind = leb-true _ 6 (and-left _ _ k)
+  kind = leb-true _ 7 (and-left _ _ k)
 
   -- each field of the record read is what stands at its place
   got : AllGot b 0 (fields (recordAt b))
   unfolding wellLaid recordAt
   got =
-      let rest = and-right (leb (kindAt b) 6) _ k in
+      let rest = and-right (leb (kindAt b) 7) _ k in
       got-by b (kindAt b) kind refl (eqb-true _ 0 (and-left _ _ rest)) (and-right (eqb (byteAt b 1) 0) _ rest)
 
   room : length (recordAt b .bytes) ≡ 504

@@ -123,7 +123,7 @@ fn put_separation(out: &mut [u8], p: Separation, s: &[u8; 504])
     put_zeros(out, 168, 508);
 }
 
-// Stores the body y; s is the record's room, with its name or palette.
+// Stores the body y; s is the record's room, with its name, palette or program.
 pub fn put_body(out: &mut [u8], y: Body, s: &[u8; 504])
     requires { ⌜ length (now out) ≡ 512 ⌝ }
     ensures { λ _. ⌜ now (out .exit) ≡ puts (now (out .entry)) 4 (body y (now (s .entry)) ++ rest y) ⌝ }
@@ -148,6 +148,9 @@ pub fn put_body(out: &mut [u8], y: Body, s: &[u8; 504])
             put_separation(out, p, s);
         }
         Body::Palette => {
+            put_run(out, 4, s, 504);
+        }
+        Body::Program => {
             put_run(out, 4, s, 504);
         }
     }

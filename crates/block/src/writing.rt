@@ -25,6 +25,7 @@ fn kind_of(y: Body) -> u8
         Body::Indexed { base: _, hival: _ } => 4,
         Body::Separation(_) => 5,
         Body::Palette => 6,
+        Body::Program => 7,
     }
 }
 

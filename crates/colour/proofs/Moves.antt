@@ -16,7 +16,7 @@ use Rattle.fixed.proofs.Listed.{listed-value}
 use Rattle.cie.specs.declared.Closing.{Closing}
 use Rattle.cie.specs.declared.Closing.the-variants.{Nothing, Gray, Rgb, Cmyk, CalGray, CalRgb, Lab, NoMark, EveryInk}
 use Rattle.cie.specs.Closings.{closedBy}
-use Rattle.space.specs.Spaces.{Space, none, gray, rgb, cmyk, calGray, calRgb, lab, noMark, everyInk, separation, indexed, countOf, limitCount, lowOf, highOf, closingOf}
+use Rattle.space.specs.Spaces.{Space, none, gray, rgb, cmyk, calGray, calRgb, lab, noMark, everyInk, separation, calculated, indexed, countOf, limitCount, lowOf, highOf, closingOf}
 use Rattle.space.specs.WellMade.{rankOf}
 use Rattle.space.proofs.Counts.{limits-high}
 use Rattle.colour.specs.Colours.{limitedTo, settled, valued, answered}
@@ -64,6 +64,7 @@ closes (lab k al ah bl bh) r h c = refl
 closes noMark r h c = refl
 closes everyInk r h c = refl
 closes (separation e c0 c1 s) r h c = absurd (omega arith)
+closes (calculated k s) r h c = absurd (omega arith)
 closes (indexed n t s) r h c = absurd (omega arith)
 
 plain : (s : Space) (cs : List ℤ) → rankOf s < 1 → 1 ≤ countOf s → length cs ≡ countOf s → flagOf (answered s cs) ≡ someOutside s cs (limitCount s)

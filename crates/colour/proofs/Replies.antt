@@ -16,11 +16,13 @@ use Rattle.page.specs.Validation.{validated}
 use Rattle.record.specs.Layout.{entriesOf}
 use Rattle.record.specs.declared.types.Ranges.{Ranges}
 use Rattle.record.specs.declared.types.Separation.{Separation as Ink}
+use Rattle.form.specs.Steps.{programStep}
+use Rattle.calculator.specs.Calculator.{codeAfter}
 use Rattle.space.specs.Spaces.{Space, countOf, limitCount}
 use Rattle.space.specs.Pages.{plainAt, tintedAt, rowAt, spaceAt}
 use Rattle.space.specs.Levels.{plainIn, spaceIn}
 use Rattle.space.specs.declared.nesting.Level.{Level}
-use Rattle.space.specs.declared.nesting.Level.the-variants.{Plain, Separation, Indexed}
+use Rattle.space.specs.declared.nesting.Level.the-variants.{Plain, Separation, Program, Indexed}
 use Rattle.colour.specs.Colours.{limitedTo, valued, answered}
 use Rattle.colour.specs.Evaluating.{evaluated}
 use Rattle.colour.proofs.Steps.{tint-first}
@@ -53,6 +55,14 @@ module _ (page : List ℕ) {l : Level} {u : Colour} (v : Colour) where
         let w : m ≡ countOf (plainAt page (p .alternate)) = em ∙ ap countOf es in
         (λ i. valued (es i) ((eu ∙ tint-first (p .exponent) m (entriesOf (p .c0)) (entriesOf (p .c1)) v) i)) ∙
         ap (λ (j : ℕ). valued (plainAt page (p .alternate)) (tintStep (p .exponent) j (take j (entriesOf (p .c0))) (take j (entriesOf (p .c1))) v)) w ∙
+        sym (ap (λ (k : Level). valued (spaceIn page k) v) el)
+
+    pub value-calculated : (n alternate : ℕ) {m : ℕ} → l ≡ Program n alternate → s ≡ plainAt page alternate → m ≡ countOf s
+        → u ≡ programStep m (codeAfter page n) v → valued s u ≡ valued (spaceIn page l) v
+    unfolding spaceIn valued
+    value-calculated n alternate {m} el es em eu =
+        let w : m ≡ countOf (plainAt page alternate) = em ∙ ap countOf es in
+        (λ i. valued (es i) ((eu ∙ ap (λ (j : ℕ). programStep j (codeAfter page n) v) w) i)) ∙
         sym (ap (λ (k : Level). valued (spaceIn page k) v) el)
 
     pub value-indexed : (n base hival : ℕ) → l ≡ Indexed n base hival → s ≡ tintedAt page base → u ≡ rowAt page n hival s v → valued s u ≡ valued (spaceIn page l) v

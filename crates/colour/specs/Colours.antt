@@ -9,7 +9,8 @@ use Rattle.fixed.specs.Values.{places, started, limitStep, rowStep, tintStep}
 use Rattle.fixed.specs.declared.values.Colour.{Colour}
 use Rattle.cie.specs.Answers.{Reply, refusal}
 use Rattle.cie.specs.Closings.{closed}
-use Rattle.space.specs.Spaces.{Space, none, gray, rgb, cmyk, calGray, calRgb, lab, noMark, everyInk, separation, indexed, countOf, limitCount, lowOf, highOf, closingOf}
+use Rattle.form.specs.Steps.{programStep}
+use Rattle.space.specs.Spaces.{Space, none, gray, rgb, cmyk, calGray, calRgb, lab, noMark, everyInk, separation, calculated, indexed, countOf, limitCount, lowOf, highOf, closingOf}
 
 -- the first m values, each limited to its range
 unfoldable pub limitedTo : Space → ℕ → Colour → Colour
@@ -32,6 +33,7 @@ valued (lab k al ah bl bh) v = settled (lab k al ah bl bh) v
 valued noMark v = settled noMark v
 valued everyInk v = settled everyInk v
 valued (separation e c0 c1 s) v = valued s (tintStep e (countOf s) c0 c1 v)
+valued (calculated c s) v = valued s (programStep (countOf s) c v)
 valued (indexed h t s) v = valued s (rowStep (countOf s) h t v)
 
 -- 8 where there is no space, then 9 for a wrong count of components, then the answer

@@ -4,6 +4,7 @@ ghost use Rattle.cie.specs.Answers.{meaning, refusal};
 ghost use Rattle.space.specs.Pages.{spaceAt};
 ghost use Rattle.space.specs.Levels.{spaceIn};
 ghost use Rattle.colour.specs.Colours.{valued, answered};
+use crate::values::calculate;
 use crate::values::limit_all;
 use crate::values::pick_row;
 use crate::values::tint;
@@ -36,6 +37,10 @@ fn value_in(page: &[u8], l: Level, v: Colour) -> Answered
         Level::Separation(p) => {
             let s = plain_at(page, p.alternate);
             value_in(page, s, tint(p, count(s), v))
+        }
+        Level::Program { block, alternate } => {
+            let s = plain_at(page, alternate);
+            value_in(page, s, calculate(page, block, count(s), v))
         }
         Level::Indexed { block, base, hival } => {
             let s = tinted_at(page, base);

@@ -1,13 +1,17 @@
-// The steps on a colour that a space asks for: its components limited, a row of its palette, its tint.
+// The steps on a colour that a space asks for: its components limited, a row of its palette, its tint, its program.
 ghost use mathlib.Core.Path.{_≡_};
 ghost use Prim.Native.Nat.{_+_, _*_, _≤_};
 ghost use Rattle.fixed.specs.Numbers.{OverOne, tintValue};
 ghost use Rattle.fixed.specs.Values.{places, value, filled, tintStep};
 ghost use Rattle.record.specs.Layout.{entriesOf};
+ghost use Rattle.form.specs.Steps.{programStep};
+ghost use Rattle.calculator.specs.Calculator.{codeAfter};
 ghost use Rattle.space.specs.Spaces.{Space};
 ghost use Rattle.space.specs.Pages.{entries, entryOf, rowAt};
 ghost use Rattle.space.specs.Levels.{spaceIn, Ends, Ranged};
 ghost use Rattle.colour.specs.Colours.{limitedTo};
+use calculator::program_run;
+use calculator::step_run;
 use fixed::Colour;
 use fixed::VALUES;
 use fixed::index_of;
@@ -138,4 +142,11 @@ pub fn tint(p: Separation, m: u32, c: Colour) -> Colour
         values: u,
         moved: moved | is_outside(t, 0, 1000000),
     }
+}
+
+// What the program after block n makes of value 0: a colour of the alternate space, of m components, not limited yet.
+pub fn calculate(page: &[u8], n: u16, m: u32, c: Colour) -> Colour
+    ensures { λ r. ⌜ r ≡ programStep m (codeAfter (now (page .entry)) n) c ⌝ }
+{
+    step_run(page, n, program_run(page, n), m as usize, c)
 }

@@ -14,7 +14,7 @@ use Rattle.page.specs.Validation.{validated}
 use Rattle.lines.specs.Texts.{text}
 use Rattle.lines.specs.Digits.{digits}
 
--- kinds 1 to 5 are spaces; 0 is a free block and 6 a palette
+-- kinds 1 to 5 are spaces; 0 is a free block, 6 a palette's and 7 a program's
 unfoldable pub isSpace : ℕ → Bool
 isSpace kind = leb 1 kind && leb kind 5
 

@@ -18,7 +18,7 @@ use space::components;
 use space::kind;
 use space::words;
 
-// Whether a block of this kind is a space: neither free nor a palette.
+// Whether a block of this kind is a space: neither free, nor of a palette or a program.
 fn is_space(k: u32) -> bool
     ensures { λ r. ⌜ r ≡ isSpace k ⌝ }
 {

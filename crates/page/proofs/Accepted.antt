@@ -1,11 +1,11 @@
 -- An accepted page: no refusal is due of its length, nor of any of its blocks.
 use mathlib.Core.Path.{_≡_, refl, sym, subst, _∙_}
-use mathlib.Core.Bool.{true, _&&_}
+use mathlib.Core.Bool.{true, true≢false, _&&_}
 use mathlib.Core.List.{List}
 use Prim.Native.Nat.{ℕ, _+_, _*_, _/_, _≤_, _<_}
 use native.Mathlib.Decide.{decLt}
 use native.Mathlib.Omega.{arith}
-use borrow.Author.Tests.{eqb-true, leb-true}
+use borrow.Author.Tests.{eqb-true, eq-eqb, leb-true}
 use lib.Dec.{eqb}
 use lib.ListN.{length, List·getD-eq-default}
 use lib.Seq.{getD-drop}
@@ -19,7 +19,7 @@ use Rattle.record.specs.Rules.{wellLaid, wellFormed, lawful, supported}
 use Rattle.record.specs.declared.types.Body.{Body}
 use Rattle.record.specs.declared.types.Body.the-variants.{Free}
 use Rattle.page.specs.Outcomes.{Outcome, accepted, refused, andThen}
-use Rattle.page.specs.Validation.{wellSized, faultOne, faultTwo, faultClaimed, claimedAt, permitted, wellFilled, passes, validated}
+use Rattle.page.specs.Validation.{wellSized, faultOne, faultTwo, faultClaimed, claimedAt, permitted, programFault, orElse, wellFilled, passes, validated}
 use Rattle.page.proofs.Sizes.{sized-whole, sized-most}
 
 -- a refusal is no acceptance
@@ -31,15 +31,21 @@ both : (x y : Outcome) → andThen x y ≡ accepted → (x ≡ accepted) × (y �
 both accepted y e = (refl, e)
 both (refused k i) y e = absurd (never k i e)
 
--- a body whose numbers are lawful and supported, and its reference permitted
-pub record Fair (page : List ℕ) (y : Body) : Type 0 where
+-- block n, whose body is y: its numbers are lawful and supported, its reference permitted, and its program, if it has one, is not refused
+pub record Fair (page : List ℕ) (n : ℕ) (y : Body) : Type 0 where
   pub lawful-is : lawful y ≡ true
   pub supported-is : supported y ≡ true
   pub permitted-is : permitted page y ≡ true
+  pub program-is : programFault page n y ≡ 0
 
-free-fair : (page : List ℕ) → Fair page Free
-unfolding lawful supported permitted
-free-fair page = record { lawful-is = refl; supported-is = refl; permitted-is = refl }
+free-fair : (page : List ℕ) (n : ℕ) → Fair page n Free
+unfolding lawful supported permitted programFault
+free-fair page n = record { lawful-is = refl; supported-is = refl; permitted-is = refl; program-is = refl }
+
+-- where neither a refusal nor what comes after it is due
+none-else : (number after : ℕ) → orElse number after ≡ 0 → (number ≡ 0) × (after ≡ 0)
+none-else number after =
+    cond-ind (λ (k : ℕ). k ≡ 0 → (number ≡ 0) × (after ≡ 0)) (eqb number 0) (λ t e. (eqb-true number 0 t, e)) (λ f e. absurd (true≢false (sym (eq-eqb number 0 e) ∙ f)))
 
 module _ (page : List ℕ) (ok : validated page ≡ accepted) where
   -- 1 is not due, and neither pass finds a fault
@@ -90,16 +96,18 @@ module _ (page : List ℕ) (ok : validated page ≡ accepted) where
     below-most = omega (arith, sized-most _ well-sized)
 
     two : (lawful (bodyAt (blockAt page i)) ≡ true) × (supported (bodyAt (blockAt page i)) ≡ true)
-        × (permitted page (bodyAt (blockAt page i)) ≡ true) × (wellFilled page i (claimedAt page i) (bodyAt (blockAt page i)) ≡ true)
+        × (permitted page (bodyAt (blockAt page i)) ≡ true) × (programFault page i (bodyAt (blockAt page i)) ≡ 0)
+        × (wellFilled page i (claimedAt page i) (bodyAt (blockAt page i)) ≡ true)
     unfolding faultTwo faultClaimed
     two =
         let a = passed (lawful (bodyAt (blockAt page i))) _ 4 (λ e. omega arith) (none-two i l) in
         let b = passed (supported (bodyAt (blockAt page i))) _ 5 (λ e. omega arith) (a .1) in
         let c = passed (permitted page (bodyAt (blockAt page i))) _ 6 (λ e. omega arith) (b .1) in
-        let d = passed (wellFilled page i (claimedAt page i) (bodyAt (blockAt page i))) _ 7 (λ e. omega arith) (c .1) in
-        (a .0, b .0, c .0, d .0)
+        let p = none-else (programFault page i (bodyAt (blockAt page i))) _ (c .1) in
+        let d = passed (wellFilled page i (claimedAt page i) (bodyAt (blockAt page i))) _ 7 (λ e. omega arith) (p .1) in
+        (a .0, b .0, c .0, p .0, d .0)
 
-    -- 4 to 7 are not due: its numbers are lawful and supported, its reference permitted, and what it holds is in order
+    -- 4 to 7, 16 and 17 are not due: its numbers are lawful and supported, its reference permitted, its program in order, and what it holds
     pub lawful-at : lawful (bodyAt (blockAt page i)) ≡ true
     lawful-at = two .0
 
@@ -109,8 +117,11 @@ module _ (page : List ℕ) (ok : validated page ≡ accepted) where
     pub permitted-at : permitted page (bodyAt (blockAt page i)) ≡ true
     permitted-at = two .2
 
+    pub program-at : programFault page i (bodyAt (blockAt page i)) ≡ 0
+    program-at = two .3
+
     pub held-at : wellFilled page i (claimedAt page i) (bodyAt (blockAt page i)) ≡ true
-    held-at = two .3
+    held-at = two .4
 
   -- the kind past the last block is 0
   past : (n : ℕ) → length page / 512 ≤ n → kindAt (blockAt page n) ≡ 0
@@ -119,22 +130,22 @@ module _ (page : List ℕ) (ok : validated page ≡ accepted) where
       getD-drop (512 * n) page 0 0 ∙ List·getD-eq-default page 0 o
 
   -- byte 0 of each block is a known kind, and 0 past the page
-  pub kind-known : (n : ℕ) → byteAt (blockAt page n) 0 ≤ 6
+  pub kind-known : (n : ℕ) → byteAt (blockAt page n) 0 ≤ 7
   unfolding wellFormed wellLaid
   kind-known n = within (decLt n (length page / 512))
     where
-      within : Dec (n < length page / 512) → byteAt (blockAt page n) 0 ≤ 6
-      within (yes w) = leb-true _ 6 (and-left _ _ (and-left (wellLaid (blockAt page n)) _ (formed-at n w)))
+      within : Dec (n < length page / 512) → byteAt (blockAt page n) 0 ≤ 7
+      within (yes w) = leb-true _ 7 (and-left _ _ (and-left (wellLaid (blockAt page n)) _ (formed-at n w)))
       within (no w) = omega (arith, past n (omega arith))
 
-  -- 4 to 6 are due of no block, nor of one that the page does not have, which is free
-  pub fair-at : (n : ℕ) → Fair page (bodyAt (blockAt page n))
+  -- 4 to 6, 16 and 17 are due of no block, nor of one that the page does not have, which is free
+  pub fair-at : (n : ℕ) → Fair page n (bodyAt (blockAt page n))
   unfolding bodyBy
   fair-at n = within (decLt n (length page / 512))
     where
-      within : Dec (n < length page / 512) → Fair page (bodyAt (blockAt page n))
-      within (yes w) = record { lawful-is = lawful-at n w; supported-is = supported-at n w; permitted-is = permitted-at n w }
-      within (no w) = subst (λ (k : ℕ). Fair page (bodyBy k (blockAt page n))) (sym (past n (omega arith))) (free-fair page)
+      within : Dec (n < length page / 512) → Fair page n (bodyAt (blockAt page n))
+      within (yes w) = record { lawful-is = lawful-at n w; supported-is = supported-at n w; permitted-is = permitted-at n w; program-is = program-at n w }
+      within (no w) = subst (λ (k : ℕ). Fair page n (bodyBy k (blockAt page n))) (sym (past n (omega arith))) (free-fair page n)
 
 -- accepted is every page of a right length with no fault in its blocks
 pub accepted-where : (page : List ℕ) → wellSized (length page) ≡ true → ((i : ℕ) → i < length page / 512 → faultOne page i ≡ 0)

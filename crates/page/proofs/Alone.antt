@@ -14,7 +14,7 @@ use Rattle.record.specs.Layout.{checked}
 use Rattle.record.specs.Reading.{ownAt, bodyAt, recordAt}
 use Rattle.record.specs.Rules.{wellLaid, wellShaped, lawful, supported, refers, faultOf, faultAt}
 use Rattle.record.specs.declared.types.Body.{Body}
-use Rattle.record.specs.declared.types.Body.the-variants.{Free, CalGray, CalRgb, Lab, Indexed, Separation, Palette}
+use Rattle.record.specs.declared.types.Body.the-variants.{Free, CalGray, CalRgb, Lab, Indexed, Separation, Palette, Program}
 use Rattle.record.proofs.Shapes.{formed-shaped}
 use Rattle.page.specs.Outcomes.{accepted}
 use Rattle.page.specs.Validation.{isAlternate, isBase, refersTo, permitted, validated}
@@ -45,6 +45,7 @@ permitted-refers page (Lab g) h = refl
 permitted-refers page (Indexed base hival) h = refers-so page isBase base h
 permitted-refers page (Separation p) h = refers-so page isAlternate (p .alternate) h
 permitted-refers page Palette h = refl
+permitted-refers page Program h = refl
 
 module _ (page : List ℕ) (ok : validated page ≡ accepted) (i : ℕ) (l : i < length page / 512) where
   -- it has 512 bytes

@@ -15,14 +15,14 @@ use Rattle.record.specs.declared.types.Body.the-variants.{Free}
 use Rattle.space.specs.Spaces.{countOf, none}
 use Rattle.space.specs.Pages.{plainOf, tintedOf, spaceOf, spaceAt}
 use Rattle.page.specs.Outcomes.{accepted}
-use Rattle.page.specs.Validation.{wellSized, faultOne, permitted, claimedAt, wellFilled, faultClaimed, faultTwo, validated}
+use Rattle.page.specs.Validation.{wellSized, faultOne, permitted, claimedAt, programFault, wellFilled, faultClaimed, faultTwo, validated}
 
 abbrev pub zeroPage : List ℕ
 zeroPage = replicate 512 0
 
 -- by computing
 pub zero-accepted : validated zeroPage ≡ accepted
-unfolding validated wellSized faultOne faultTwo faultClaimed claimedAt permitted wellFilled checked plain weighed bodyBy wellLaid nameShown wellFormed lawful supported total allFrom zeroBetween firstFrom
+unfolding validated wellSized faultOne faultTwo faultClaimed claimedAt permitted programFault wellFilled checked plain weighed bodyBy wellLaid nameShown wellFormed lawful supported total allFrom zeroBetween firstFrom
 zero-accepted = refl
 
 -- every block is free

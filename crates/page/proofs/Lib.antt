@@ -2,6 +2,7 @@
 pub mod Sizes
 pub mod Accepted
 pub mod Permits
+pub mod Programs
 pub mod WellMade
 pub mod Bytes
 pub mod Alone

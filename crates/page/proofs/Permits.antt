@@ -9,7 +9,7 @@ use Rattle.fixed.specs.Bytes.{blocks, blockAt}
 use Rattle.record.specs.Reading.{bodyAt}
 use Rattle.record.specs.declared.types.Separation.{Separation as Ink}
 use Rattle.record.specs.declared.types.Body.{Body}
-use Rattle.record.specs.declared.types.Body.the-variants.{Free, CalGray, CalRgb, Lab, Indexed, Separation, Palette}
+use Rattle.record.specs.declared.types.Body.the-variants.{Free, CalGray, CalRgb, Lab, Indexed, Separation, Palette, Program}
 use Rattle.space.specs.Spaces.{Space, countOf}
 use Rattle.space.specs.Pages.{deviceOf, numbered, plainOf, plainAt, tintedOf, tintedAt}
 use Rattle.space.proofs.Asked.{device-some, ink-some}
@@ -34,6 +34,7 @@ alternate-body (Lab g) = refl
 alternate-body (Indexed base hival) = refl
 alternate-body (Separation p) = refl
 alternate-body Palette = refl
+alternate-body Program = refl
 
 module _ (page : List ℕ) where
   base-body : (n : ℕ) (y : Body) → isBase y ≡ ltb 0 (countOf (tintedOf page n y))
@@ -45,6 +46,7 @@ module _ (page : List ℕ) where
   base-body n (Indexed base hival) = refl
   base-body n (Separation p) = sym (ink-some page n p)
   base-body n Palette = refl
+  base-body n Program = refl
 
   pub alternate-permits : (n : ℕ) → refersTo page isAlternate n ≡ ltb 0 (countOf (plainAt page n))
   alternate-permits = permits page isAlternate plainOf alternate-body

@@ -1,26 +1,33 @@
 -- On an accepted page the space at every number, if it has components, is well made.
 use mathlib.Core.Path.{_≡_}
-use mathlib.Core.Bool.{true}
+use mathlib.Core.Bool.{true, false, _||_}
 use mathlib.Core.List.{List}
 use Prim.Native.Nat.{ℕ, _≤_, _<_}
 use native.Mathlib.Omega.{arith}
 use borrow.Author.Tests.{leb-true}
 use lib.Signed.{leZ}
+use lib.Dec.{eqb}
+use lib.ListN.{length}
 use Rattle.fixed.specs.Bytes.{blockAt}
-use Rattle.fixed.specs.Numbers.{gammaSupported}
-use Rattle.fixed.proofs.Decide.{cond-ind, and-left, and-right}
+use Rattle.fixed.specs.Numbers.{gammaSupported, exponentSupported}
+use Rattle.fixed.proofs.Decide.{cond-ind, passed, and-left, and-right}
 use Rattle.fixed.proofs.Signs.{not-above}
 use Rattle.record.specs.Reading.{bodyAt, theNone, theAll, nameIs}
 use Rattle.record.specs.Rules.{whitePoint, blackPoint, ordered, lawful, supported}
+use Rattle.record.specs.declared.types.Separation.{Separation as Ink}
 use Rattle.record.specs.declared.types.Body.{Body}
-use Rattle.record.specs.declared.types.Body.the-variants.{Free, CalGray, CalRgb, Lab, Indexed, Separation, Palette}
+use Rattle.record.specs.declared.types.Body.the-variants.{Free, CalGray, CalRgb, Lab, Indexed, Separation, Palette, Program}
+use Rattle.stack.specs.Flat.{flat}
+use Rattle.form.specs.Steps.{fitting}
+use Rattle.calculator.specs.Calculator.{mostFlat, programRun, runText, codeAfter, filledRun}
+use Rattle.calculator.proofs.Runs.{code-fits, code-few}
 use Rattle.space.specs.Spaces.{Space, countOf}
 use Rattle.space.specs.Pages.{numbered, plainOf, plainAt, inkOf, tintedOf, tintedAt, spaceOf, spaceAt}
 use Rattle.space.specs.WellMade.{WellMade, rankOf}
 use Rattle.space.proofs.Levels.{numbered-ind, body-rank, plain-rank}
 use Rattle.space.proofs.Counts.{table-length, c0-length, c1-length}
 use Rattle.page.specs.Outcomes.{accepted}
-use Rattle.page.specs.Validation.{permitted, validated}
+use Rattle.page.specs.Validation.{permitted, within, runFault, programFault, validated}
 use Rattle.page.proofs.Accepted.{Fair, fair-at}
 use Rattle.page.proofs.Permits.{alternate-some, base-some}
 
@@ -33,50 +40,67 @@ sound-at : (r : ℕ) → 0 < r → (page : List ℕ) (f : Body → Space) (n : �
 unfolding WellMade
 sound-at r l page f n h = numbered-ind (Sound r) (λ k. absurd (omega arith)) (λ _. (tt, l)) (λ _. (tt, l)) (λ _. (tt, l)) page f n h
 
+-- an exponent that is carried and is not 0, for a program, is one of `fixed`'s
+other-supported : (e : ℕ) → eqb e 0 ≡ false → (eqb e 0 || exponentSupported e) ≡ true → exponentSupported e ≡ true
+other-supported e z h = rw z at h
+
 -- 5: each gamma is within the house limit; 4: amin <= amax, bmin <= bmax
-plain-sound : (page : List ℕ) (y : Body) → Fair page y → Sound 1 (plainOf y)
+plain-sound : (page : List ℕ) (n : ℕ) (y : Body) → Fair page n y → Sound 1 (plainOf y)
 unfolding lawful ordered supported plainOf WellMade
-plain-sound page Free w h = absurd (omega arith)
-plain-sound page (CalGray g) w h = (w .supported-is, omega arith)
-plain-sound page (CalRgb g) w h =
+plain-sound page n Free w h = absurd (omega arith)
+plain-sound page n (CalGray g) w h = (w .supported-is, omega arith)
+plain-sound page n (CalRgb g) w h =
     let s = w .supported-is in
     let r = and-right (gammaSupported (g .gammas .x)) _ s in
     ((and-left _ _ s, and-left _ _ r, and-right (gammaSupported (g .gammas .y)) _ r), omega arith)
-plain-sound page (Lab g) w h =
+plain-sound page n (Lab g) w h =
     let q = g .range in
     let r = and-right (blackPoint (g .black)) _ (and-right (whitePoint (g .white)) _ (w .lawful-is)) in
     let a = leZ (q .amin) (q .amax) in
     let b = leZ (q .bmin) (q .bmax) in
     ((not-above (q .amin) (q .amax) (and-left a b r), not-above (q .bmin) (q .bmax) (and-right a b r)), omega arith)
-plain-sound page (Indexed base hival) w h = absurd (omega arith)
-plain-sound page (Separation p) w h = absurd (omega arith)
-plain-sound page Palette w h = absurd (omega arith)
+plain-sound page n (Indexed base hival) w h = absurd (omega arith)
+plain-sound page n (Separation p) w h = absurd (omega arith)
+plain-sound page n Palette w h = absurd (omega arith)
+plain-sound page n Program w h = absurd (omega arith)
 
-module _ (page : List ℕ) (fair : (n : ℕ) → Fair page (bodyAt (blockAt page n))) where
+module _ (page : List ℕ) (fair : (n : ℕ) → Fair page n (bodyAt (blockAt page n))) where
   plain-at : (n : ℕ) → Sound 1 (plainAt page n)
-  plain-at n = sound-at 1 (omega arith) page plainOf n (plain-sound page _ (fair n))
+  plain-at n = sound-at 1 (omega arith) page plainOf n (plain-sound page n _ (fair n))
+
+  -- 16 and 17: a program leaves as many numbers as the alternate has components
+  program-sound : (n : ℕ) (p : Ink) → eqb (p .exponent) 0 ≡ true → programFault page n (Separation p) ≡ 0 → (fitting (countOf (plainAt page (p .alternate))) (codeAfter page n) ≡ true) × (length (flat (codeAfter page n)) ≤ mostFlat)
+  unfolding programFault runFault within codeAfter
+  program-sound n p e h =
+      let m = countOf (plainAt page (p .alternate)) in
+      let f : runFault page n m ≡ 0 = rw e at h in
+      let r = passed (filledRun (programRun page n) (runText page n (programRun page n))) _ 7 (λ z. omega arith) f in
+      (code-fits m (runText page n (programRun page n)) (r .1), code-few (runText page n (programRun page n)))
 
   -- 5: each exponent is within the house limit; 6: the alternate is of a kind permitted, and has components
-  tinted-sound : (n : ℕ) (y : Body) → Fair page y → Sound 2 (tintedOf page n y)
+  tinted-sound : (n : ℕ) (y : Body) → Fair page n y → Sound 2 (tintedOf page n y)
   unfolding supported permitted inkOf tintedOf WellMade
-  tinted-sound n Free w h = let p = plain-sound page Free w h in (p .0, omega (arith, p .1))
-  tinted-sound n (CalGray g) w h = let p = plain-sound page (CalGray g) w h in (p .0, omega (arith, p .1))
-  tinted-sound n (CalRgb g) w h = let p = plain-sound page (CalRgb g) w h in (p .0, omega (arith, p .1))
-  tinted-sound n (Lab g) w h = let p = plain-sound page (Lab g) w h in (p .0, omega (arith, p .1))
-  tinted-sound n (Indexed base hival) w h = let p = plain-sound page (Indexed base hival) w h in (p .0, omega (arith, p .1))
+  tinted-sound n Free w h = let p = plain-sound page n Free w h in (p .0, omega (arith, p .1))
+  tinted-sound n (CalGray g) w h = let p = plain-sound page n (CalGray g) w h in (p .0, omega (arith, p .1))
+  tinted-sound n (CalRgb g) w h = let p = plain-sound page n (CalRgb g) w h in (p .0, omega (arith, p .1))
+  tinted-sound n (Lab g) w h = let p = plain-sound page n (Lab g) w h in (p .0, omega (arith, p .1))
+  tinted-sound n (Indexed base hival) w h = let p = plain-sound page n (Indexed base hival) w h in (p .0, omega (arith, p .1))
   tinted-sound n (Separation p) w h =
       let s = plainAt page (p .alternate) in
       let i = plain-at (p .alternate) (alternate-some page (p .alternate) (w .permitted-is)) in
       cond-ind (λ (t : Space). WellMade t × (rankOf t < 2)) (nameIs (blockAt page n) theNone) (λ _. (tt, omega arith)) (λ _.
       cond-ind (λ (t : Space). WellMade t × (rankOf t < 2)) (nameIs (blockAt page n) theAll) (λ _. (tt, omega arith)) (λ _.
-      ((w .supported-is, c0-length p s, c1-length p s, i .1, i .0), omega arith)))
-  tinted-sound n Palette w h = let p = plain-sound page Palette w h in (p .0, omega (arith, p .1))
+      cond-ind (λ (t : Space). WellMade t × (rankOf t < 2)) (eqb (p .exponent) 0)
+      (λ e. let k = program-sound n p e (w .program-is) in ((k .0, k .1, i .1, i .0), omega arith))
+      (λ e. ((other-supported (p .exponent) e (w .supported-is), c0-length p s, c1-length p s, i .1, i .0), omega arith))))
+  tinted-sound n Palette w h = let p = plain-sound page n Palette w h in (p .0, omega (arith, p .1))
+  tinted-sound n Program w h = let p = plain-sound page n Program w h in (p .0, omega (arith, p .1))
 
   tinted-at : (n : ℕ) → Sound 2 (tintedAt page n)
   tinted-at n = sound-at 2 (omega arith) page (tintedOf page n) n (tinted-sound n _ (fair n))
 
   -- 4: hival 0 to 255; 6: the base is of a kind permitted, and has components
-  space-sound : (n : ℕ) (y : Body) → Fair page y → Sound 3 (spaceOf page n y)
+  space-sound : (n : ℕ) (y : Body) → Fair page n y → Sound 3 (spaceOf page n y)
   unfolding lawful permitted spaceOf WellMade
   space-sound n Free w h = let p = tinted-sound n Free w h in (p .0, omega (arith, p .1))
   space-sound n (CalGray g) w h = let p = tinted-sound n (CalGray g) w h in (p .0, omega (arith, p .1))
@@ -87,6 +111,7 @@ module _ (page : List ℕ) (fair : (n : ℕ) → Fair page (bodyAt (blockAt page
       ((leb-true hival 255 (w .lawful-is), table-length page n hival (tintedAt page base), i .1, i .0), omega arith)
   space-sound n (Separation p) w h = let q = tinted-sound n (Separation p) w h in (q .0, omega (arith, q .1))
   space-sound n Palette w h = let p = tinted-sound n Palette w h in (p .0, omega (arith, p .1))
+  space-sound n Program w h = let p = tinted-sound n Program w h in (p .0, omega (arith, p .1))
 
 -- every number, device codes among them, whose space has components: so all but those that are refused with 8
 pub well-made-at : (page : List ℕ) (n : ℕ) → validated page ≡ accepted → 1 ≤ countOf (spaceAt page n) → WellMade (spaceAt page n)

@@ -1,4 +1,5 @@
--- FORMAT.md, Refusals and Operations: validating a page. 1; then blocks upward, 2 before 3; then blocks upward again, 4, 5, 6, 7. The first found is given.
+-- FORMAT.md, Refusals and Operations: validating a page. 1; then blocks upward, 2 before 3; then blocks upward again, 4, 5, 6, those of a program, 7. The first
+-- found is given.
 use Prim.Native.Nat.{ℕ, zero, suc, _+_, _-_, _*_, _/_, _%_}
 use mathlib.Core.Bool.{Bool, true, false, _&&_, cond}
 use mathlib.Core.List.{List}
@@ -11,7 +12,8 @@ use Rattle.record.specs.Reading.{ownAt, bodyAt}
 use Rattle.record.specs.Rules.{wellFormed, lawful, supported, isPalette, paletteEnds, entriesEnd}
 use Rattle.record.specs.declared.types.Separation.{Separation as Ink}
 use Rattle.record.specs.declared.types.Body.{Body}
-use Rattle.record.specs.declared.types.Body.the-variants.{Free, CalGray, CalRgb, Lab, Indexed, Separation, Palette}
+use Rattle.record.specs.declared.types.Body.the-variants.{Free, CalGray, CalRgb, Lab, Indexed, Separation, Palette, Program}
+use Rattle.calculator.specs.Calculator.{refusalOf, programRun, runText, filledRun}
 use Rattle.space.specs.Spaces.{countOf}
 use Rattle.space.specs.Pages.{plainAt, tintedAt}
 use Rattle.page.specs.Outcomes.{Outcome, accepted, refused, andThen}
@@ -38,6 +40,7 @@ isAlternate (Lab g) = true
 isAlternate (Indexed base hival) = false
 isAlternate (Separation p) = false
 isAlternate Palette = false
+isAlternate Program = false
 
 -- an Indexed base may be a Separation too
 abbrev pub isBase : Body → Bool
@@ -48,6 +51,7 @@ isBase (Lab g) = true
 isBase (Indexed base hival) = false
 isBase (Separation p) = true
 isBase Palette = false
+isBase Program = false
 
 -- a device code, or a block that f permits; a block that the page does not have is free
 unfoldable pub refersTo : List ℕ → (Body → Bool) → ℕ → Bool
@@ -61,6 +65,7 @@ permitted page (Lab g) = true
 permitted page (Indexed base hival) = refersTo page isBase base
 permitted page (Separation p) = refersTo page isAlternate (p .alternate)
 permitted page Palette = true
+permitted page Program = true
 
 -- the components of the space that a body refers to, none where it may not
 unfoldable pub within : List ℕ → Body → ℕ
@@ -71,6 +76,7 @@ within page (Lab g) = 0
 within page (Indexed base hival) = countOf (tintedAt page base)
 within page (Separation p) = countOf (plainAt page (p .alternate))
 within page Palette = 0
+within page Program = 0
 
 -- 7, the palette run of an Indexed block: m (hival + 1) bytes, m being the base's count, in the blocks straight after it, as few as hold them
 abbrev pub paletteSize : ℕ → ℕ → ℕ
@@ -88,24 +94,53 @@ runFilled page i size =
     palettes page (i + 1) (i + 1 + runLength size)
     && paletteEnds (blockAt page (i + runLength size)) (size - room * (runLength size - 1))
 
--- 7, a Separation: C0 and C1 entries past the alternate's count m are zero
+-- whether a body is a Separation with a program
+abbrev pub programmed : Body → Bool
+programmed Free = false
+programmed (CalGray g) = false
+programmed (CalRgb g) = false
+programmed (Lab g) = false
+programmed (Indexed base hival) = false
+programmed (Separation p) = eqb (p .exponent) 0
+programmed Palette = false
+programmed Program = false
+
+-- the program after block i, over an alternate of m components: 7 for a run that is missing or ill filled; then 16 and 17, of its text
+unfoldable pub runFault : List ℕ → ℕ → ℕ → ℕ
+runFault page i m =
+    unless (filledRun (programRun page i) (runText page i (programRun page i))) 7 (refusalOf m (runText page i (programRun page i)))
+
+-- of block i, whose body is y: 0 where it has no program
+unfoldable pub programFault : List ℕ → ℕ → Body → ℕ
+programFault page i y = cond (programmed y) (runFault page i (within page y)) 0
+
+-- 7, a Separation: how many entries of C0 and C1 are used, the alternate's count m, and none where a program stands for them
+unfoldable pub usedEntries : Ink → ℕ → ℕ
+usedEntries p m = cond (eqb (p .exponent) 0) 0 m
+
+-- the entries of C0 and C1 past m are zero
 unfoldable pub unusedZero : Ink → ℕ → Bool
 unusedZero p m = entriesEnd (p .c0) m && entriesEnd (p .c1) m
 
--- 7, a stray palette block: how many blocks past one whose body is y the last Indexed block before them claims
-unfoldable pub claimedAfter : List ℕ → Body → ℕ → ℕ
-claimedAfter page Free claimed = claimed - 1
-claimedAfter page (CalGray g) claimed = claimed - 1
-claimedAfter page (CalRgb g) claimed = claimed - 1
-claimedAfter page (Lab g) claimed = claimed - 1
-claimedAfter page (Indexed base hival) claimed = runLength (paletteSize (within page (Indexed base hival)) hival)
-claimedAfter page (Separation p) claimed = claimed - 1
-claimedAfter page Palette claimed = claimed - 1
+-- 7, a stray block of a palette or of a program: how many blocks past one whose body is y the last Indexed block before them claims
+unfoldable pub paletteClaimed : List ℕ → Body → ℕ → ℕ
+paletteClaimed page Free claimed = claimed - 1
+paletteClaimed page (CalGray g) claimed = claimed - 1
+paletteClaimed page (CalRgb g) claimed = claimed - 1
+paletteClaimed page (Lab g) claimed = claimed - 1
+paletteClaimed page (Indexed base hival) claimed = runLength (paletteSize (within page (Indexed base hival)) hival)
+paletteClaimed page (Separation p) claimed = claimed - 1
+paletteClaimed page Palette claimed = claimed - 1
+paletteClaimed page Program claimed = claimed - 1
+
+-- the same past block i, which may be a Separation with a program: that claims its run
+unfoldable pub claimedAfter : List ℕ → ℕ → Body → ℕ → ℕ
+claimedAfter page i y claimed = cond (programmed y) (programRun page i) (paletteClaimed page y claimed)
 
 -- and how many from block i on
 unfoldable pub claimedAt : List ℕ → ℕ → ℕ
 claimedAt page zero = 0
-claimedAt page (suc i) = claimedAfter page (bodyAt (blockAt page i)) (claimedAt page i)
+claimedAt page (suc i) = claimedAfter page i (bodyAt (blockAt page i)) (claimedAt page i)
 
 unfoldable pub wellFilled : List ℕ → ℕ → ℕ → Body → Bool
 wellFilled page i claimed Free = true
@@ -113,12 +148,22 @@ wellFilled page i claimed (CalGray g) = true
 wellFilled page i claimed (CalRgb g) = true
 wellFilled page i claimed (Lab g) = true
 wellFilled page i claimed (Indexed base hival) = runFilled page i (paletteSize (within page (Indexed base hival)) hival)
-wellFilled page i claimed (Separation p) = unusedZero p (within page (Separation p))
+wellFilled page i claimed (Separation p) = unusedZero p (usedEntries p (within page (Separation p)))
 wellFilled page i claimed Palette = ltb 0 claimed
+wellFilled page i claimed Program = ltb 0 claimed
+
+-- a refusal, and where it is none what is refused after it
+abbrev pub orElse : ℕ → ℕ → ℕ
+orElse number after = cond (eqb number 0) after number
 
 -- the second pass on block i, whose body is y, with so many blocks still claimed
 unfoldable pub faultClaimed : List ℕ → ℕ → ℕ → Body → ℕ
-faultClaimed page i claimed y = unless (lawful y) 4 (unless (supported y) 5 (unless (permitted page y) 6 (unless (wellFilled page i claimed y) 7 0)))
+faultClaimed page i claimed y =
+    unless (lawful y) 4
+    (unless (supported y) 5
+    (unless (permitted page y) 6
+    (orElse (programFault page i y)
+    (unless (wellFilled page i claimed y) 7 0))))
 
 unfoldable pub faultTwo : List ℕ → ℕ → ℕ
 faultTwo page i = faultClaimed page i (claimedAt page i) (bodyAt (blockAt page i))

@@ -1,4 +1,4 @@
-// The second pass: 4, 5, 6 and 7, block by block.
+// The second pass: 4, 5, 6, those of a program, and 7, block by block.
 ghost use mathlib.Core.Path.{_≡_};
 ghost use mathlib.Core.List.{List};
 ghost use Prim.Native.Nat.{ℕ, _-_, _<_, _≤_};
@@ -6,9 +6,12 @@ ghost use Rattle.fixed.specs.Bytes.{blocks};
 ghost use Rattle.fixed.specs.Loops.{firstFrom};
 ghost use Rattle.fixed.specs.Values.{places};
 ghost use Rattle.page.specs.Outcomes.{accepted, refused, meaning};
-ghost use Rattle.page.specs.Validation.{permitted, within, paletteSize, runLength, palettes, runFilled, unusedZero, claimedAfter, wellFilled, faultClaimed, faultTwo};
+ghost use Rattle.page.specs.Validation.{permitted, within, paletteSize, runLength, palettes, runFilled, programmed, runFault, programFault, usedEntries, unusedZero, paletteClaimed, claimedAfter, wellFilled, faultClaimed, faultTwo};
 ghost use Rattle.space.specs.Pages.{entries};
 use crate::Verdict;
+use calculator::is_filled_run;
+use calculator::judge_run;
+use calculator::program_run;
 use record::Body;
 use record::ROOM;
 use record::Separation;
@@ -35,6 +38,7 @@ fn count_within(page: &[u8], y: Body) -> u32
         Body::Indexed { base, hival: _ } => count(tinted_at(page, base)),
         Body::Separation(p) => count(plain_at(page, p.alternate)),
         Body::Palette => 0,
+        Body::Program => 0,
     }
 }
 
@@ -50,6 +54,7 @@ fn permits(y: Body, m: u32) -> bool
         Body::Indexed { base: _, hival: _ } => 0 < m,
         Body::Separation(_) => 0 < m,
         Body::Palette => true,
+        Body::Program => true,
     }
 }
 
@@ -101,6 +106,53 @@ fn run_filled(page: &[u8], i: u32, size: u32) -> bool
     all_palettes(page, i + 1, i + 1 + n) & palette_ends(page, i + n, used)
 }
 
+// Whether a body is a Separation with a program.
+fn is_programmed(y: Body) -> bool
+    ensures { λ r. ⌜ r ≡ programmed y ⌝ }
+{
+    match y {
+        Body::Free => false,
+        Body::CalGray(_) => false,
+        Body::CalRgb(_) => false,
+        Body::Lab(_) => false,
+        Body::Indexed { base: _, hival: _ } => false,
+        Body::Separation(p) => p.exponent == 0,
+        Body::Palette => false,
+        Body::Program => false,
+    }
+}
+
+// What the program after block i, over an alternate of m components, is refused with: 7 for its run, then 16 and 17 for its text; or 0.
+fn run_fault(page: &[u8], i: u32, m: u32) -> u32
+    requires { ⌜ i < blocks ⌝ }
+    ensures { λ r. ⌜ r ≡ runFault (now (page .entry)) i m ⌝ }
+{
+    let n = i as u16;
+    let run = program_run(page, n);
+    if is_filled_run(page, n, run) {
+        return judge_run(page, n, run, m as usize);
+    }
+    7
+}
+
+// The same of block i, whose body is y, where it has a program; 0 where it has none.
+fn program_fault(page: &[u8], i: u32, y: Body, m: u32) -> u32
+    requires { ⌜ (i < blocks) × (m ≡ within (now page) y) ⌝ }
+    ensures { λ r. ⌜ r ≡ programFault (now (page .entry)) i y ⌝ }
+{
+    if is_programmed(y) {
+        return run_fault(page, i, m);
+    }
+    0
+}
+
+// How many entries of C0 and C1 are used, over an alternate of m components: none where a program stands for them.
+fn used_entries(p: Separation, m: u32) -> u32
+    ensures { λ r. ⌜ r ≡ usedEntries p m ⌝ }
+{
+    if p.exponent == 0 { 0 } else { m }
+}
+
 // Whether C0 and C1 of a Separation have nothing past m entries.
 fn unused_zero(p: Separation, m: u32) -> bool
     ensures { λ r. ⌜ r ≡ unusedZero p m ⌝ }
@@ -111,9 +163,9 @@ fn unused_zero(p: Separation, m: u32) -> bool
 }
 
 // The blocks that are claimed as palette after one whose body is y, over a space of m components.
-fn claimed_after(y: Body, m: u32, claimed: u32) -> u32
+fn palette_claimed(y: Body, m: u32, claimed: u32) -> u32
     requires { ⌜ m ≤ places ⌝ }
-    ensures { λ r. ⌜ ((page : List ℕ) → m ≡ within page y → r ≡ claimedAfter page y claimed) ⌝ }
+    ensures { λ r. ⌜ ((page : List ℕ) → m ≡ within page y → r ≡ paletteClaimed page y claimed) ⌝ }
 {
     match y {
         Body::Free => less(claimed),
@@ -123,7 +175,19 @@ fn claimed_after(y: Body, m: u32, claimed: u32) -> u32
         Body::Indexed { base: _, hival } => run_length(palette_size(m, hival)),
         Body::Separation(_) => less(claimed),
         Body::Palette => less(claimed),
+        Body::Program => less(claimed),
     }
+}
+
+// The blocks that are claimed as palette or as program after block i, whose body is y, over a space of m components.
+fn claimed_after(page: &[u8], i: u32, y: Body, m: u32, claimed: u32) -> u32
+    requires { ⌜ (i < blocks) × (m ≤ places) × (m ≡ within (now page) y) ⌝ }
+    ensures { λ r. ⌜ r ≡ claimedAfter (now (page .entry)) i y claimed ⌝ }
+{
+    if is_programmed(y) {
+        return program_run(page, i as u16);
+    }
+    palette_claimed(y, m, claimed)
 }
 
 // Whether what a body has after it and past its counts is in order, over a space of m components, with so many blocks claimed from block i on: else it is
@@ -138,12 +202,13 @@ fn is_well_filled(page: &[u8], i: u32, claimed: u32, y: Body, m: u32) -> bool
         Body::CalRgb(_) => true,
         Body::Lab(_) => true,
         Body::Indexed { base: _, hival } => run_filled(page, i, palette_size(m, hival)),
-        Body::Separation(p) => unused_zero(p, m),
+        Body::Separation(p) => unused_zero(p, used_entries(p, m)),
         Body::Palette => 0 < claimed,
+        Body::Program => 0 < claimed,
     }
 }
 
-// The first refusal of 4, 5, 6, 7 that block i meets, or 0: y is its body, and m the components of the space within.
+// The first refusal of 4, 5, 6, those of a program, and 7 that block i meets, or 0: y is its body, and m the components of the space within.
 fn fault_claimed(page: &[u8], i: u32, claimed: u32, y: Body, m: u32) -> u32
     requires { ⌜ (i < blocks) × (m ≤ places) × (m ≡ within (now page) y) ⌝ }
     ensures { λ r. ⌜ r ≡ faultClaimed (now (page .entry)) i claimed y ⌝ }
@@ -160,6 +225,10 @@ fn fault_claimed(page: &[u8], i: u32, claimed: u32, y: Body, m: u32) -> u32
     }
     if !permitted {
         return 6;
+    }
+    let program = program_fault(page, i, y, m);
+    if program != 0 {
+        return program;
     }
     if !filled {
         return 7;
@@ -181,7 +250,7 @@ pub fn pass_two(page: &[u8], n: u32) -> Verdict
         if number != 0 {
             return Verdict::Refused { number, block: i };
         }
-        claimed = claimed_after(y, m, claimed);
+        claimed = claimed_after(page, i, y, m, claimed);
         i += 1;
     }
     Verdict::Accepted

@@ -21,7 +21,7 @@ use Rattle.cie.proofs.Facts.{one-float, gray-white, gray-black}
 use Rattle.space.specs.Spaces.{Space, calGray}
 use Rattle.space.specs.Pages.{plainOf, tintedOf, spaceOf, spaceAt}
 use Rattle.page.specs.Outcomes.{Outcome, accepted}
-use Rattle.page.specs.Validation.{wellSized, faultOne, permitted, claimedAt, wellFilled, faultClaimed, faultTwo, validated}
+use Rattle.page.specs.Validation.{wellSized, faultOne, permitted, programFault, claimedAt, wellFilled, faultClaimed, faultTwo, validated}
 use Rattle.colour.specs.Colours.{limitedTo, valued, answered}
 use Rattle.colour.specs.Evaluating.{onAccepted, evaluated}
 use Rattle.paper.specs.Paper.{gray0, nought}
@@ -32,7 +32,7 @@ k = record { xw = pos 950500; zw = pos 1089000; gamma = pos 1000000 }
 
 -- by computing
 gray-accepted : validated (blockOf gray0) ≡ accepted
-unfolding blockOf headOf twoBytes fourBytes padded validated wellSized faultOne faultTwo faultClaimed claimedAt permitted wellFilled checked plain weighed bodyBy wellLaid nameShown wellFormed lawful supported whitePoint blackPoint gammaSupported numberAt total allFrom zeroBetween firstFrom
+unfolding blockOf headOf twoBytes fourBytes padded validated wellSized faultOne faultTwo faultClaimed claimedAt permitted programFault wellFilled checked plain weighed bodyBy wellLaid nameShown wellFormed lawful supported whitePoint blackPoint gammaSupported numberAt total allFrom zeroBetween firstFrom
 gray-accepted = refl
 
 gray-space : spaceAt (blockOf gray0) 0 ≡ calGray k

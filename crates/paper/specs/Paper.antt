@@ -109,8 +109,9 @@ pub record Paper : Type 0 where
   pub index-minus-0-5 : (hival : ℕ) → indexOf (negsuc 499999) hival ≡ 0
   -- "byte B5 over 0..1 gives 709804"
   pub byte-b5 : paletteValue 0xB5 (pos 0) (pos 1000000) ≡ pos 709804
-  -- "tint 1 gives C1 and tint 0 gives C0, before the alternate's limits", of every name but None and All, which have no tint step: under every exponent,
-  -- whatever the numbers of C0 and C1, in each of the m components that the tint step makes, among as many values as there are
+  -- "tint 1 gives C1 and tint 0 gives C0, before the alternate's limits", of every name but None and All, which have no tint step, and "keeps to exponents 1
+  -- to 4", a program having no tint step either: under every exponent, whatever the numbers of C0 and C1, in each of the m components that the tint step
+  -- makes, among as many values as there are
   pub tint-1 : (e m : ℕ) (c0 c1 : List ℤ) (c : Colour) (k : ℕ) → k < m → m ≤ length (c .values) → value (c .values) 0 ≡ pos 1000000
       → value (tintStep e m c0 c1 c .values) k ≡ value c1 k
   pub tint-0 : (e m : ℕ) (c0 c1 : List ℤ) (c : Colour) (k : ℕ) → k < m → m ≤ length (c .values) → value (c .values) 0 ≡ pos 0

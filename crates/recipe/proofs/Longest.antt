@@ -1,4 +1,4 @@
--- How long a recipe is: as document 01's table of lengths says, of which 1,045 is the greatest.
+-- How long a recipe is: as document 01's table of lengths says, with request 2026-06, of which 1,084 is the greatest.
 use mathlib.Core.Path.{_≡_, refl}
 use mathlib.Core.List.{List, _++_}
 use Prim.Native.Nat.{ℕ, _+_, _*_, _≤_, _<_}
@@ -6,7 +6,11 @@ use native.Mathlib.Nat.{mul-le-mul, le-refl}
 use native.Mathlib.Omega.{arith}
 use lib.IntN.{ℤ}
 use lib.ListN.{length, length-append}
-use Rattle.space.specs.Spaces.{Space, none, gray, rgb, cmyk, calGray, calRgb, lab, noMark, everyInk, separation, indexed, countOf, wordsOf}
+use Rattle.cie.specs.declared.RgbClosing.{RgbClosing}
+use Rattle.stack.specs.Programs.{Code}
+use Rattle.stack.specs.Flat.{flat}
+use Rattle.calculator.specs.Calculator.{mostFlat, codeAfter}
+use Rattle.space.specs.Spaces.{Space, none, gray, rgb, cmyk, calGray, calRgb, lab, noMark, everyInk, separation, calculated, indexed, countOf, wordsOf}
 use Rattle.space.specs.Pages.{tableOf, c0Of, c1Of, spaceAt}
 use Rattle.space.specs.WellMade.{rankOf, WellMade}
 use Rattle.space.specs.Levels.{spaceIn, levelAt}
@@ -30,6 +34,12 @@ module _ (s : Space) (r : Right s) where
       let l : length ((c0 ++ c1) ++ stepsOf s) ≡ length c0 + length c1 + length (stepsOf s) = simp length-append in
       omega arith
 
+  calculated-length : (c : Code) → Right (calculated c s)
+  unfolding recipeOf stepsOf
+  calculated-length c =
+      let l : length (flat c ++ stepsOf s) ≡ length (flat c) + length (stepsOf s) = length-append (flat c) (stepsOf s) in
+      omega arith
+
   indexed-length : (h : ℕ) (t : List ℤ) → length t ≡ countOf s * (h + 1) → Right (indexed h t s)
   unfolding recipeOf stepsOf
   indexed-length h t e =
@@ -49,6 +59,7 @@ plain-length (lab k al ah bl bh) r = refl
 plain-length noMark r = refl
 plain-length everyInk r = refl
 plain-length (separation e c0 c1 s) r = absurd (omega arith)
+plain-length (calculated c s) r = absurd (omega arith)
 plain-length (indexed h t s) r = absurd (omega arith)
 
 -- a space that is well made
@@ -64,12 +75,14 @@ recipe-length (lab k al ah bl bh) w = plain-length (lab k al ah bl bh) (omega ar
 recipe-length noMark w = plain-length noMark (omega arith)
 recipe-length everyInk w = plain-length everyInk (omega arith)
 recipe-length (separation e c0 c1 s) w = separation-length s (recipe-length s (w .4)) e c0 c1 (w .1) (w .2)
+recipe-length (calculated c s) w = calculated-length s (recipe-length s (w .3)) c
 recipe-length (indexed h t s) w = indexed-length s (recipe-length s (w .3)) h t (w .1)
 
 -- every space on a page, whatever the page
 pub length-at : (page : List ℕ) (n : ℕ) → length (recipeOf (spaceAt page n)) ≡ wordsOf (spaceAt page n)
 length-at page =
     space-ind page Right plain-length (λ p s _ r. separation-length s r (p .exponent) (c0Of p s) (c1Of p s) (c0-length p s) (c1-length p s))
+    (λ n s _ r. calculated-length s r (codeAfter page n))
     (λ n hival s r. indexed-length s r hival (tableOf page n hival s) (table-length page n hival s))
 
 -- and so of the level at its number
@@ -78,8 +91,12 @@ length-in page n e = rw (level-space page n e) (length-at page n)
 
 -- ---- The longest
 
--- of an Indexed, hival 255, over CMYK
-pub cmyk-longest : (t : List ℤ) → wordsOf (indexed 255 t cmyk) ≡ longest
+-- of an Indexed, hival 255, over a Separation over CalRGB whose program has the most words
+pub calculated-longest : (t : List ℤ) (c : Code) (k : RgbClosing) → length (flat c) ≡ mostFlat → wordsOf (indexed 255 t (calculated c (calRgb k))) ≡ longest
+calculated-longest t c k e = omega arith
+
+-- without a program: over CMYK
+pub cmyk-longest : (t : List ℤ) → wordsOf (indexed 255 t cmyk) ≡ 1045
 cmyk-longest t = refl
 
 -- a space that an Indexed of 256 rows may be over
@@ -97,10 +114,14 @@ plain-few (lab k al ah bl bh) r = (omega arith, omega arith)
 plain-few noMark r = (omega arith, omega arith)
 plain-few everyInk r = (omega arith, omega arith)
 plain-few (separation e c0 c1 s) r = absurd (omega arith)
+plain-few (calculated c s) r = absurd (omega arith)
 plain-few (indexed h t s) r = absurd (omega arith)
 
 separation-few : (e : ℕ) (c0 c1 : List ℤ) (s : Space) → rankOf s < 1 → Few (separation e c0 c1 s)
 separation-few e c0 c1 s r = omega (arith, plain-few s r .0, count-high s)
+
+calculated-few : (c : Code) (s : Space) → length (flat c) ≤ mostFlat → rankOf s < 1 → Few (calculated c s)
+calculated-few c s l r = omega (arith, plain-few s r .0)
 
 indexed-few : (h : ℕ) (t : List ℤ) (s : Space) → h ≤ 255 → Few s → wordsOf (indexed h t s) ≤ longest
 indexed-few h t s l f =
@@ -110,13 +131,14 @@ indexed-few h t s l f =
 -- no recipe of a space that is well made is longer
 base-few : (s : Space) → rankOf s < 2 → WellMade s → Few s
 unfolding WellMade
-base-few = by-rank (λ (s : Space). rankOf s < 2 → WellMade s → Few s) (λ s p _ _. plain-few s p .1) (λ e c0 c1 s _ w. separation-few e c0 c1 s (w .3)) (λ h t s r w. absurd (omega arith))
+base-few = by-rank (λ (s : Space). rankOf s < 2 → WellMade s → Few s) (λ s p _ _. plain-few s p .1) (λ e c0 c1 s _ w. separation-few e c0 c1 s (w .3))
+    (λ c s _ w. calculated-few c s (w .1) (w .2)) (λ h t s r w. absurd (omega arith))
 
 words-short : (s : Space) → WellMade s → wordsOf s ≤ longest
 unfolding WellMade
 words-short =
     by-rank (λ (s : Space). WellMade s → wordsOf s ≤ longest) (λ s p _. omega (arith, plain-few s p .0))
-    (λ e c0 c1 s w. omega (arith, separation-few e c0 c1 s (w .3))) (λ h t s w. indexed-few h t s (w .0) (base-few s (w .2) (w .3)))
+    (λ e c0 c1 s w. omega (arith, separation-few e c0 c1 s (w .3))) (λ c s w. omega (arith, calculated-few c s (w .1) (w .2))) (λ h t s w. indexed-few h t s (w .0) (base-few s (w .2) (w .3)))
 
 pub recipe-short : (s : Space) → WellMade s → length (recipeOf s) ≤ longest
 recipe-short s w = rw (recipe-length s w) (words-short s w)

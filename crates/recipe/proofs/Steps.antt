@@ -12,13 +12,14 @@ use Rattle.cie.specs.declared.Closing.{Closing}
 use Rattle.cie.specs.declared.Closing.the-variants.{Nothing, Gray, Rgb, Cmyk, CalGray, CalRgb, Lab, NoMark, EveryInk}
 use Rattle.record.specs.declared.types.Ranges.{Ranges}
 use Rattle.record.specs.declared.types.Separation.{Separation as Ink}
+use Rattle.calculator.specs.Calculator.{codeAfter}
 use Rattle.space.specs.Spaces.{Space, countOf, closingOf}
 use Rattle.space.specs.Pages.{plainAt, tintedAt}
 use Rattle.space.specs.Levels.{plainIn, spaceIn}
 use Rattle.space.specs.declared.nesting.Level.{Level}
-use Rattle.space.specs.declared.nesting.Level.the-variants.{Plain, Separation, Indexed}
+use Rattle.space.specs.declared.nesting.Level.the-variants.{Plain, Separation, Program, Indexed}
 use Rattle.recipe.specs.Recipes.{endsOf, stepsOf}
-use Rattle.recipe.specs.Parts.{rowWords, tintWords}
+use Rattle.recipe.specs.Parts.{rowWords, tintWords, programWords}
 
 -- the closing step of a plain space is the one that it was made of
 pub closing-is : (c : Closing) (q : Ranges) → c ≡ closingOf (plainIn c q)
@@ -54,6 +55,11 @@ module _ (page : List ℕ) {l : Level} where
   unfolding spaceIn stepsOf tintWords
   steps-separation p {s} {m} e es em =
       ap (λ (k : Level). stepsOf (spaceIn page k)) e ∙ (λ i. tintWords p (sym (em ∙ ap countOf es) i) ++ stepsOf (sym es i))
+
+  pub steps-calculated : (n alternate : ℕ) {s : Space} {m : ℕ} → l ≡ Program n alternate → s ≡ plainAt page alternate → m ≡ countOf s → stepsOf (spaceIn page l) ≡ programWords (codeAfter page n) m ++ stepsOf s
+  unfolding spaceIn stepsOf programWords
+  steps-calculated n alternate {s} {m} e es em =
+      ap (λ (k : Level). stepsOf (spaceIn page k)) e ∙ (λ i. programWords (codeAfter page n) (sym (em ∙ ap countOf es) i) ++ stepsOf (sym es i))
 
   pub steps-indexed : (n base hival : ℕ) {s : Space} → l ≡ Indexed n base hival → s ≡ tintedAt page base → stepsOf (spaceIn page l) ≡ rowWords page n hival s ++ stepsOf s
   unfolding spaceIn stepsOf rowWords

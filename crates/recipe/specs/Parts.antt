@@ -1,8 +1,10 @@
--- The words of step 2 and of step 3 (FORMAT.md, The recipe of a space).
+-- The words of step 2, of step 3 and of step 12 (FORMAT.md, The recipe of a space).
 use Prim.Native.Nat.{ℕ}
 use mathlib.Core.List.{List, _∷_, _++_}
 use lib.IntN.{ℤ, pos}
-use lib.ListN.{take}
+use lib.ListN.{length, take}
+use Rattle.stack.specs.Programs.{Code}
+use Rattle.stack.specs.Flat.{flat}
 use Rattle.record.specs.Layout.{entriesOf}
 use Rattle.record.specs.declared.types.Separation.{Separation as Ink}
 use Rattle.space.specs.Spaces.{Space, countOf}
@@ -15,3 +17,7 @@ rowWords page n hival s = pos 2 ∷ pos (countOf s) ∷ pos hival ∷ tableOf pa
 -- step 3 of a Separation over an alternate of m components
 unfoldable pub tintWords : Ink → ℕ → List ℤ
 tintWords p m = pos 3 ∷ pos (p .exponent) ∷ pos m ∷ (take m (entriesOf (p .c0)) ++ take m (entriesOf (p .c1)))
+
+-- step 12 of a Separation with a program, over an alternate of m components
+unfoldable pub programWords : Code → ℕ → List ℤ
+programWords c m = pos 12 ∷ pos m ∷ pos (length (flat c)) ∷ flat c

@@ -1,11 +1,13 @@
--- FORMAT.md, The recipe of a space: its count, limits in component order (none for a Separation named None), the closing step. Indexed puts step 2 and Separation step 3 in
--- place of their limits, before those of the inner space.
+-- FORMAT.md, The recipe of a space: its count, limits in component order (none for a Separation named None), the closing step. Indexed puts step 2 and Separation step 3, or
+-- step 12 with its program, in place of their limits, before those of the inner space.
 use Prim.Native.Nat.{ℕ, zero, suc}
 use mathlib.Core.List.{List, [], _∷_, _++_}
 use lib.IntN.{ℤ, pos}
+use lib.ListN.{length}
+use Rattle.stack.specs.Flat.{flat}
 use Rattle.cie.specs.declared.Closing.{Closing}
 use Rattle.cie.specs.declared.Closing.the-variants.{Nothing, Gray, Rgb, Cmyk, CalGray, CalRgb, Lab, NoMark, EveryInk}
-use Rattle.space.specs.Spaces.{Space, none, gray, rgb, cmyk, calGray, calRgb, lab, noMark, everyInk, separation, indexed, countOf, limitCount, lowOf, highOf, closingOf}
+use Rattle.space.specs.Spaces.{Space, none, gray, rgb, cmyk, calGray, calRgb, lab, noMark, everyInk, separation, calculated, indexed, countOf, limitCount, lowOf, highOf, closingOf}
 
 -- 1 k lo hi
 abbrev pub limitWords : ℕ → ℤ → ℤ → List ℤ
@@ -33,7 +35,7 @@ closingWords EveryInk = pos 11 ∷ []
 abbrev pub endsOf : Space → List ℤ
 endsOf s = limitsOf s (limitCount s) ++ closingWords (closingOf s)
 
--- 2 m h and the entries; 3 e m, m C0s, m C1s
+-- 2 m h and the entries; 3 e m, m C0s, m C1s; 12 m n and the n words of a program's flat form
 unfoldable pub stepsOf : Space → List ℤ
 stepsOf none = endsOf none
 stepsOf gray = endsOf gray
@@ -45,6 +47,7 @@ stepsOf (lab k al ah bl bh) = endsOf (lab k al ah bl bh)
 stepsOf noMark = endsOf noMark
 stepsOf everyInk = endsOf everyInk
 stepsOf (separation e c0 c1 s) = (pos 3 ∷ pos e ∷ pos (countOf s) ∷ (c0 ++ c1)) ++ stepsOf s
+stepsOf (calculated c s) = (pos 12 ∷ pos (countOf s) ∷ pos (length (flat c)) ∷ flat c) ++ stepsOf s
 stepsOf (indexed h t s) = (pos 2 ∷ pos (countOf s) ∷ pos h ∷ t) ++ stepsOf s
 
 -- the whole recipe

@@ -1,4 +1,4 @@
-// The parts of a recipe: the limits and the closing step of a plain space, step 2 of an Indexed, step 3 of a Separation.
+// The parts of a recipe: the limits and the closing step of a plain space, step 2 of an Indexed, step 3 of a Separation or step 12 of its program.
 ghost use mathlib.Core.Path.{_≡_};
 ghost use Prim.Native.Nat.{_+_, _*_, _<_, _≤_};
 ghost use lib.ListN.{length};
@@ -9,11 +9,14 @@ ghost use Rattle.space.specs.Spaces.{Space};
 ghost use Rattle.space.specs.Pages.{entries, entryOf};
 ghost use Rattle.space.specs.Levels.{plainIn, spaceIn, Ends, Ranged};
 ghost use Rattle.recipe.specs.Recipes.{limitsOf, endsOf};
-ghost use Rattle.recipe.specs.Parts.{rowWords, tintWords};
+ghost use Rattle.calculator.specs.Calculator.{codeAfter};
+ghost use Rattle.recipe.specs.Parts.{rowWords, tintWords, programWords};
 use crate::closings::put_closing;
 use crate::stores::put3;
 use crate::stores::put4;
 use crate::stores::word_of;
+use calculator::program_run;
+use calculator::put_run;
 use cie::Closing;
 use fixed::VALUES;
 use fixed::over_one;
@@ -147,4 +150,15 @@ pub fn put_tint(p: Separation, m: u32, words: &mut [i32], at: usize) -> usize
     put_entries(entries_of(c0), m, words, at + 3);
     put_entries(entries_of(c1), m, words, at + 3 + (m as usize));
     at + 3 + 2 * (m as usize)
+}
+
+// Step 12 of the Separation in block n, with the program after it, over an alternate of m components, from `at` on; the place after it.
+pub fn put_program(page: &[u8], n: u16, m: u32, words: &mut [i32], at: usize) -> usize
+    requires { ⌜ (m ≤ places) × (at + length (programWords (codeAfter (now page) n) m) ≤ length (now words)) ⌝ }
+    ensures stores { λ _. ⌜ now (words .exit) ≡ sets (now (words .entry)) at (programWords (codeAfter (now (page .entry)) n) m) ⌝ }
+    ensures next { λ r. ⌜ r ≡ at + length (programWords (codeAfter (now (page .entry)) n) m) ⌝ }
+{
+    let size = put_run(page, n, program_run(page, n), words, at + 3);
+    put3(words, at, 12, word_of(m), word_of(size as u32));
+    at + 3 + size
 }

@@ -9,6 +9,7 @@ ghost use Rattle.recipe.specs.Recipes.{stepsOf};
 ghost use Rattle.recipe.specs.SpaceWrites.{meaning, replied, wordsAfter};
 use crate::Written;
 use crate::parts::put_ends;
+use crate::parts::put_program;
 use crate::parts::put_row;
 use crate::parts::put_tint;
 use crate::stores::word_of;
@@ -31,6 +32,11 @@ fn put_steps(page: &[u8], l: Level, words: &mut [i32], at: usize)
         Level::Separation(p) => {
             let s = plain_at(page, p.alternate);
             let next = put_tint(p, count(s), words, at);
+            put_steps(page, s, words, next);
+        }
+        Level::Program { block, alternate } => {
+            let s = plain_at(page, alternate);
+            let next = put_program(page, block, count(s), words, at);
             put_steps(page, s, words, next);
         }
         Level::Indexed { block, base, hival } => {

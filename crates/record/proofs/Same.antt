@@ -16,7 +16,7 @@ use Rattle.record.specs.Layout.{namedTo, plain, weighed, checked}
 use Rattle.record.specs.Reading.{kindAt, ownAt, tripleAt, fourNumbersAt, grayAt, rgbAt, labAt, separationAt, bodyBy, bodyAt, SameBytes}
 use Rattle.record.specs.Rules.{wellLaid, nameShown, wellFormed}
 use Rattle.record.specs.declared.types.Body.{Body}
-use Rattle.record.specs.declared.types.Body.the-variants.{Free, CalGray, CalRgb, Lab, Indexed, Separation, Palette}
+use Rattle.record.specs.declared.types.Body.the-variants.{Free, CalGray, CalRgb, Lab, Indexed, Separation, Palette, Program}
 use Rattle.record.proofs.Shapes.{name-same}
 
 -- one byte more of a block that is copied byte by byte
@@ -108,7 +108,8 @@ module _ (b c : List ℕ) (same : SameBytes b c) where
       (cond (eqb k 3) (Lab (lab-same i))
       (cond (eqb k 4) (Indexed (two-same 4 (omega arith) i) (two-same 6 (omega arith) i))
       (cond (eqb k 5) (Separation (separation-same i))
-      (cond (eqb k 6) Palette Free)))))
+      (cond (eqb k 6) Palette
+      (cond (eqb k 7) Program Free))))))
 
   pub body-same : bodyAt b ≡ bodyAt c
   body-same = by-kind (kindAt b) ∙ ap (λ (k : ℕ). bodyBy k c) (same 0 (omega arith))
@@ -119,7 +120,7 @@ module _ (b c : List ℕ) (same : SameBytes b c) where
   known-same =
       let z : zeroBetween b (namedTo (bodyAt b)) 508 ≡ zeroBetween c (namedTo (bodyAt c)) 508 =
       ap (λ (y : Body). zeroBetween b (namedTo y) 508) body-same ∙ zero-same (namedTo (bodyAt c)) 508 (omega arith) in
-      λ i. leb (same 0 (omega arith) i) 6 && (eqb (same 1 (omega arith) i) 0 && z i)
+      λ i. leb (same 0 (omega arith) i) 7 && (eqb (same 1 (omega arith) i) 0 && z i)
 
   shown-same : nameShown b ≡ nameShown c
   unfolding nameShown

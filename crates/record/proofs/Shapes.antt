@@ -89,11 +89,12 @@ name-run b p e = by-kinds (kindAt b) (ap kindOf e)
         cond-ind P (eqb k 3) (λ _ e. absurd (omega arith)) (λ _.
         cond-ind P (eqb k 4) (λ _ e. absurd (omega arith)) (λ _.
         cond-ind P (eqb k 5) (λ t _. rw t) (λ _.
-        cond-ind P (eqb k 6) (λ _ e. absurd (omega arith)) (λ _ e. absurd (omega arith)))))))
+        cond-ind P (eqb k 6) (λ _ e. absurd (omega arith)) (λ _.
+        cond-ind P (eqb k 7) (λ _ e. absurd (omega arith)) (λ _ e. absurd (omega arith))))))))
 
 -- ---- the record read shows of refusal 3 what the block shows
 
-by-kind : (b : List ℕ) (k : ℕ) → k ≤ 6
+by-kind : (b : List ℕ) (k : ℕ) → k ≤ 7
     → cond (eqb k 5) (nameFits b 8 (byteAt b 7)) true ≡ (wellNamed (bodyBy k b) (bytesBy k b) && zeroBetween (bytesBy k b) (used (bodyBy k b)) 504)
 unfolding bodyBy bytesBy wellNamed
 by-kind b zero p = sym no-bytes
@@ -109,11 +110,12 @@ by-kind b (suc (suc (suc (suc (suc zero))))) p =
     and-true true = refl
     and-true false = refl
 by-kind b (suc (suc (suc (suc (suc (suc zero)))))) p = sym (run-zeros b 4 504)
-by-kind b (suc (suc (suc (suc (suc (suc (suc k))))))) p = absurd (omega arith)
+by-kind b (suc (suc (suc (suc (suc (suc (suc zero))))))) p = sym (run-zeros b 4 504)
+by-kind b (suc (suc (suc (suc (suc (suc (suc (suc k)))))))) p = absurd (omega arith)
 
 pub shown-named : (b : List ℕ) → wellLaid b ≡ true → nameShown b ≡ (wellNamed (recordAt b .body) (recordAt b .bytes) && zeroBetween (recordAt b .bytes) (used (recordAt b .body)) 504)
 unfolding wellLaid nameShown recordAt
-shown-named b k = by-kind b (kindAt b) (leb-true _ 6 (and-left _ _ k))
+shown-named b k = by-kind b (kindAt b) (leb-true _ 7 (and-left _ _ k))
 
 -- formed, with an own number that a page can have, is known and shaped: what is tested on a page is what is tested on a block alone
 pub formed-shaped : (b : List ℕ) → (wellFormed b && ltb (ownAt b) blocks) ≡ (wellLaid b && wellShaped (recordAt b))

@@ -17,7 +17,7 @@ use Rattle.record.specs.declared.types.CalRgb.{CalRgb as RgbSpace}
 use Rattle.record.specs.declared.types.Lab.{Lab as LabSpace}
 use Rattle.record.specs.declared.types.Separation.{Separation as Ink}
 use Rattle.record.specs.declared.types.Body.{Body}
-use Rattle.record.specs.declared.types.Body.the-variants.{Free, CalGray, CalRgb, Lab, Indexed, Separation, Palette}
+use Rattle.record.specs.declared.types.Body.the-variants.{Free, CalGray, CalRgb, Lab, Indexed, Separation, Palette, Program}
 use Rattle.record.specs.declared.types.Record.{Record}
 
 -- byte 0, and bytes 2-3
@@ -71,7 +71,8 @@ bodyBy k b =
     (cond (eqb k 3) (Lab (labAt b))
     (cond (eqb k 4) (Indexed (twoAt b 4) (twoAt b 6))
     (cond (eqb k 5) (Separation (separationAt b))
-    (cond (eqb k 6) Palette Free)))))
+    (cond (eqb k 6) Palette
+    (cond (eqb k 7) Program Free))))))
 
 abbrev pub bodyAt : List ℕ → Body
 bodyAt b = bodyBy (kindAt b) b
@@ -84,11 +85,15 @@ runAt b at n = padded n (drop at b) ++ replicate (room - n) 0
 abbrev pub nameFrom : ℕ
 nameFrom = 8
 
--- the room of a block of kind k: the name, or the part of a palette
+-- the room of a block of kind k: the name, or the part of a palette or of a program's text
 unfoldable pub bytesBy : ℕ → List ℕ → List ℕ
-bytesBy k b = cond (eqb k 5) (runAt b nameFrom 128) (cond (eqb k 6) (runAt b 4 room) (replicate room 0))
+bytesBy k b =
+    cond (eqb k 5) (runAt b nameFrom 128)
+    (cond (eqb k 6) (runAt b 4 room)
+    (cond (eqb k 7) (runAt b 4 room)
+    (replicate room 0)))
 
--- byte k of the part of a palette
+-- byte k of the part of a palette, or of a program's text
 abbrev pub paletteAt : List ℕ → ℕ → ℕ
 paletteAt b k = byteAt b (4 + k)
 

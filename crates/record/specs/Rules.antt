@@ -15,7 +15,7 @@ use Rattle.record.specs.declared.types.Triple.{Triple}
 use Rattle.record.specs.declared.types.Ranges.{Ranges}
 use Rattle.record.specs.declared.types.Four.{Four}
 use Rattle.record.specs.declared.types.Body.{Body}
-use Rattle.record.specs.declared.types.Body.the-variants.{Free, CalGray, CalRgb, Lab, Indexed, Separation, Palette}
+use Rattle.record.specs.declared.types.Body.the-variants.{Free, CalGray, CalRgb, Lab, Indexed, Separation, Palette, Program}
 use Rattle.record.specs.declared.types.Record.{Record}
 
 -- whether a number is 0
@@ -39,7 +39,7 @@ nameFits s start count =
 
 -- of a block: a known kind, byte 1 zero, and zeros where the body names no byte
 unfoldable pub wellLaid : List ℕ → Bool
-wellLaid b = leb (kindAt b) 6 && (eqb (byteAt b 1) 0 && zeroBetween b (namedTo (bodyAt b)) 508)
+wellLaid b = leb (kindAt b) 7 && (eqb (byteAt b 1) 0 && zeroBetween b (namedTo (bodyAt b)) 508)
 
 -- the name of a Separation, with its length in byte 7
 unfoldable pub nameShown : List ℕ → Bool
@@ -58,6 +58,7 @@ used (Lab g) = 0
 used (Indexed base hival) = 0
 used (Separation p) = 128
 used Palette = room
+used Program = room
 
 unfoldable pub wellNamed : Body → List ℕ → Bool
 wellNamed Free s = true
@@ -67,6 +68,7 @@ wellNamed (Lab g) s = true
 wellNamed (Indexed base hival) s = true
 wellNamed (Separation p) s = nameFits s 0 (p .«name_len»)
 wellNamed Palette s = true
+wellNamed Program s = true
 
 -- an own number that a page can have, a name that fits, and zeros where the room is not used
 unfoldable pub wellShaped : Record → Bool
@@ -95,18 +97,20 @@ lawful (Lab g) = whitePoint (g .white) && (blackPoint (g .black) && ordered (g .
 lawful (Indexed base hival) = leb hival 255
 lawful (Separation p) = true
 lawful Palette = true
+lawful Program = true
 
 -- ---- 5: a gamma or exponent is beyond the house limit
 
--- each gamma and each exponent, by `fixed`'s definition
+-- each gamma and each exponent, by `fixed`'s definition; exponent 0 means a program
 unfoldable pub supported : Body → Bool
 supported Free = true
 supported (CalGray g) = gammaSupported (g .gamma)
 supported (CalRgb g) = gammaSupported (g .gammas .x) && (gammaSupported (g .gammas .y) && gammaSupported (g .gammas .z))
 supported (Lab g) = true
 supported (Indexed base hival) = true
-supported (Separation p) = exponentSupported (p .exponent)
+supported (Separation p) = eqb (p .exponent) 0 || exponentSupported (p .exponent)
 supported Palette = true
+supported Program = true
 
 -- ---- 6, of single blocks: a reference that is neither a device code nor a block number
 
@@ -118,6 +122,7 @@ refers (Lab g) = true
 refers (Indexed base hival) = device base || ltb base blocks
 refers (Separation p) = device (p .alternate) || ltb (p .alternate) blocks
 refers Palette = true
+refers Program = true
 
 -- ---- 7, of single blocks: spare bytes of a palette, and spare entries of C0 and C1
 
@@ -130,6 +135,18 @@ isPalette (Lab g) = false
 isPalette (Indexed base hival) = false
 isPalette (Separation p) = false
 isPalette Palette = true
+isPalette Program = false
+
+-- a block of a program's text
+abbrev pub isProgram : Body → Bool
+isProgram Free = false
+isProgram (CalGray g) = false
+isProgram (CalRgb g) = false
+isProgram (Lab g) = false
+isProgram (Indexed base hival) = false
+isProgram (Separation p) = false
+isProgram Palette = false
+isProgram Program = true
 
 -- the bytes of a palette end after `size` of its part in this block: those past them are zero
 unfoldable pub paletteEnds : List ℕ → ℕ → Bool

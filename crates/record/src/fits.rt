@@ -52,6 +52,7 @@ fn body_fits(y: Body)
             separation_fits(p);
         }
         Body::Palette => {}
+        Body::Program => {}
     }
 }
 

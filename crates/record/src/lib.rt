@@ -18,6 +18,7 @@ pub use names::is_name;
 pub use read::body_at;
 pub use read::entries_of;
 pub use read::is_palette;
+pub use read::is_program;
 pub use read::kind_at;
 pub use read::own_at;
 pub use read::palette_at;

@@ -5,7 +5,7 @@ ghost use lib.ListN.{length, drop};
 ghost use Rattle.fixed.specs.Bytes.{blockAt, twoAt};
 ghost use Rattle.record.specs.Reading.{kindAt, tripleAt, rangesAt, fourNumbersAt, grayAt, rgbAt, labAt, separationAt, ownAt, bodyAt, runAt, bytesBy, paletteAt, recordAt, SameBytes};
 ghost use Rattle.record.specs.Layout.{room, entriesOf};
-ghost use Rattle.record.specs.Rules.{isPalette};
+ghost use Rattle.record.specs.Rules.{isPalette, isProgram};
 use crate::types::Body;
 use crate::types::CalGray;
 use crate::types::CalRgb;
@@ -147,6 +147,7 @@ fn body_in(page: &[u8], start: usize) -> Body
         4 => indexed_in(page, start),
         5 => Body::Separation(separation_in(page, start)),
         6 => Body::Palette,
+        7 => Body::Program,
         _ => Body::Free,
     }
 }
@@ -172,7 +173,14 @@ pub fn is_palette(page: &[u8], n: u32) -> bool
     byte_at(page, n, 0) == 6
 }
 
-// Byte k of the part of a palette in block n.
+// Whether block n is a block of a program's text.
+pub fn is_program(page: &[u8], n: u32) -> bool
+    ensures { λ r. ⌜ r ≡ isProgram (bodyAt (blockAt (now (page .entry)) n)) ⌝ }
+{
+    byte_at(page, n, 0) == 7
+}
+
+// Byte k of the part of a palette, or of a program's text, in block n.
 pub fn palette_at(page: &[u8], n: u32, k: u32) -> u32
     requires { ⌜ k < room ⌝ }
     ensures is { λ r. ⌜ r ≡ paletteAt (blockAt (now (page .entry)) n) k ⌝ }
@@ -233,6 +241,9 @@ fn bytes_at(page: &[u8], n: u32, kind: u32) -> [u8; 504]
         return run_at(page, n, NAME_FROM, 128);
     }
     if kind == 6 {
+        return run_at(page, n, 4, ROOM);
+    }
+    if kind == 7 {
         return run_at(page, n, 4, ROOM);
     }
     [0u8; 504]

@@ -79,6 +79,7 @@ pub fn is_lawful(y: Body) -> bool
         Body::Indexed { base: _, hival } => hival <= 255,
         Body::Separation(_) => true,
         Body::Palette => true,
+        Body::Program => true,
     }
 }
 
@@ -101,8 +102,9 @@ pub fn is_supported(y: Body) -> bool
         }
         Body::Lab(_) => true,
         Body::Indexed { base: _, hival: _ } => true,
-        Body::Separation(p) => is_exponent(p.exponent as u32),
+        Body::Separation(p) => (p.exponent == 0) | is_exponent(p.exponent as u32),
         Body::Palette => true,
+        Body::Program => true,
     }
 }
 
@@ -118,6 +120,7 @@ pub fn is_referring(y: Body) -> bool
         Body::Indexed { base, hival: _ } => is_device(base as u32) | (base < NUMBERS),
         Body::Separation(p) => is_device(p.alternate as u32) | (p.alternate < NUMBERS),
         Body::Palette => true,
+        Body::Program => true,
     }
 }
 

@@ -91,6 +91,7 @@ fn named_to(kind: u32) -> u32
         4 => 8,
         5 => 168,
         6 => 508,
+        7 => 508,
         _ => 4,
     }
 }
@@ -101,7 +102,7 @@ pub fn is_well_laid(page: &[u8], n: u32) -> bool
 {
     let kind = byte_at(page, n, 0);
     let to = named_to(kind);
-    (kind <= 6) & ((byte_at(page, n, 1) == 0) & zero_between(page, n, to, 508))
+    (kind <= 7) & ((byte_at(page, n, 1) == 0) & zero_between(page, n, to, 508))
 }
 
 fn is_name_shown(page: &[u8], n: u32) -> bool
@@ -131,6 +132,7 @@ fn used_of(y: Body) -> u32
         Body::Indexed { base: _, hival: _ } => 0,
         Body::Separation(_) => 128,
         Body::Palette => ROOM,
+        Body::Program => ROOM,
     }
 }
 
@@ -145,6 +147,7 @@ fn is_well_named(y: Body, s: &[u8]) -> bool
         Body::Indexed { base: _, hival: _ } => true,
         Body::Separation(p) => name_fits(s, 0, 0, p.name_len as u32),
         Body::Palette => true,
+        Body::Program => true,
     }
 }
 

@@ -74,9 +74,11 @@ pub enum Body {
     Indexed { base: u16, hival: u16 },
     Separation(Separation),
     Palette,
+    Program,
 }
 
-// A record: its own number, its body, and room for bytes, with a Separation's name in the first 128 places or a palette in all 504.
+// A record: its own number, its body, and room for bytes, with a Separation's name in the first 128 places, or a part of a palette or of a program's text in
+// all 504.
 pub struct Record {
     pub own: u16,
     pub body: Body,

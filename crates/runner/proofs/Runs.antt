@@ -8,13 +8,15 @@ use lib.IntN.{ℤ, pos}
 use lib.Signed.{ltZ}
 use lib.Dec.{leb, eqb}
 use lib.ListN.{length, drop, length-append, List·getD-append}
-use lib.Seq.{drop-append-seam}
+use lib.Seq.{drop-append-seam, drop-at}
 use borrow.Author.Tests.{lt-ltb, le-ltb, le-leb, eq-eqb}
 use Rattle.fixed.specs.Numbers.{exponentSupported, gammaSupported, tintValue, outside, indexOutside}
 use Rattle.fixed.specs.Values.{value, places, started, limitStep, indexOf, rowFrom, rowStep, tintOf, tintedBy, tintStep}
 use Rattle.fixed.proofs.Decide.{both}
 use Rattle.fixed.proofs.Listed.{filled-same, index-within, row-room}
 use Rattle.fixed.specs.declared.values.Colour.{Colour}
+use Rattle.form.specs.Steps.{wellFormed, formStep}
+use Rattle.form.proofs.Parts.{part-there, form-there}
 use Rattle.cie.specs.Answers.{refusal}
 use Rattle.cie.specs.Closings.{closed}
 use Rattle.cie.specs.declared.GrayClosing.{GrayClosing}
@@ -22,9 +24,9 @@ use Rattle.cie.specs.declared.RgbClosing.{RgbClosing}
 use Rattle.cie.specs.declared.LabClosing.{LabClosing}
 use Rattle.cie.specs.declared.Closing.{Closing}
 use Rattle.cie.specs.declared.Closing.the-variants.{Gray, Rgb, Cmyk, CalGray, CalRgb, Lab, NoMark, EveryInk}
-use Rattle.runner.specs.Steps.{limitRead, rowRead, tintRead, closeRead, grayRead, rgbRead, stepBy, stepOf}
+use Rattle.runner.specs.Steps.{limitRead, rowRead, tintRead, programRead, closeRead, grayRead, rgbRead, stepBy, stepOf}
 use Rattle.runner.specs.Runs.{longest, ended, runs, ran}
-use Rattle.runner.specs.declared.Step.the-variants.{Limit, Row, Tint, Close}
+use Rattle.runner.specs.declared.Step.the-variants.{Limit, Row, Tint, Program, Close}
 use Rattle.runner.specs.declared.Read.the-variants.{At}
 use Rattle.runner.proofs.Stepped.{begun}
 
@@ -86,6 +88,27 @@ module _ (e m : ℕ) (c0 c1 l : List ℤ) (supported : exponentSupported e ≡ t
 
   pub tint-run : (n c : ℕ) (v : Colour) → runs n c ((pos 3 ∷ pos e ∷ pos m ∷ (c0 ++ c1)) ++ l) v ≡ runs n c l (tintStep e m c0 c1 v)
   tint-run n c v = begun n c tinted v tint-read ∙ ap₂ (λ (x : List ℤ) (y : Colour). runs n c x y) tint-drop (tint-same v)
+
+-- ---- a program: a flat form of k words that leaves m numbers
+
+module _ (m k : ℕ) (ws l : List ℤ) (size : length ws ≡ k) (formed : wellFormed ws m ≡ true) where
+  abbrev programmed : List ℤ
+  programmed = (pos 12 ∷ pos m ∷ pos k ∷ ws) ++ l
+
+  abbrev head : List ℤ
+  head = pos 12 ∷ pos m ∷ pos k ∷ []
+
+  pub program-read : stepOf programmed ≡ At (Program m k) (3 + k)
+  unfolding stepBy programRead
+  program-read = simp (form-there head ws l 3 k refl size m formed)
+
+  program-drop : drop (3 + k) programmed ≡ l
+  program-drop = drop-at (pos 12 ∷ pos m ∷ pos k ∷ ws) l (3 + k) (let e : suc (suc (suc (length ws))) ≡ 3 + k = omega arith in e)
+
+  pub program-run : (n c : ℕ) (v : Colour) → runs n c ((pos 12 ∷ pos m ∷ pos k ∷ ws) ++ l) v ≡ runs n c l (formStep m ws v)
+  program-run n c v =
+      begun n c programmed v program-read
+      ∙ ap₂ (λ (x y : List ℤ). runs n c x (formStep m y v)) program-drop (part-there head ws l 3 k refl size)
 
 -- ---- a row of a table of h + 1 rows, m entries each
 

@@ -16,15 +16,17 @@ use Rattle.fixed.specs.Numbers.{exponentSupported, gammaSupported}
 use Rattle.fixed.specs.Values.{value, smallOf, places}
 use Rattle.fixed.proofs.Decide.{cond-ind}
 use Rattle.fixed.specs.declared.values.Colour.{Colour}
+use Rattle.form.specs.Steps.{formAt}
+use Rattle.form.proofs.Parts.{form-placed}
 use Rattle.cie.specs.Answers.{Reply, refusal}
 use Rattle.cie.specs.declared.Closing.{Closing}
 use Rattle.cie.specs.declared.Closing.the-variants.{Gray, Rgb, Cmyk, CalGray, CalRgb, Lab, NoMark, EveryInk}
-use Rattle.runner.specs.Steps.{fills, limitRead, rowRead, tintRead, closeRead, grayWords, grayRead, rgbWords, rgbRead, labWords, stepBy, stepOf}
+use Rattle.runner.specs.Steps.{fills, limitRead, rowRead, tintRead, programRead, closeRead, grayWords, grayRead, rgbWords, rgbRead, labWords, stepBy, stepOf}
 use Rattle.runner.specs.Ranges.{Bounded}
 use Rattle.runner.specs.Runs.{Turn, done, more, ended, stepped, turnOf, runsAfter, runs}
 use Rattle.runner.proofs.Ranges.{row-range, tint-range}
 use Rattle.runner.specs.declared.Step.{Step}
-use Rattle.runner.specs.declared.Step.the-variants.{Limit, Row, Tint, Close}
+use Rattle.runner.specs.declared.Step.the-variants.{Limit, Row, Tint, Program, Close}
 use Rattle.runner.specs.declared.Read.{Read}
 use Rattle.runner.specs.declared.Read.the-variants.{At, Nothing}
 
@@ -69,6 +71,15 @@ tint-sound l =
     let m = smallOf (value l 2) in
     cond-ind (Fine l) (exponentSupported x && fills m) (λ e. unless l (Tint x m) (3 + 2 * m) (omega arith) (tint-range x m e)) (λ _. nothing l)
 
+program-sound : (l : List ℤ) → Fine l (programRead l)
+unfolding programRead
+program-sound l =
+    let m = smallOf (value l 1) in
+    let n = smallOf (value l 2) in
+    cond-ind (Fine l) (formAt l 3 n m) (λ e.
+    let p = form-placed l 3 n m e in
+    at l (Program m n) (3 + n) (omega arith) (p .there) (p .low, p .high, p .few)) (λ _. nothing l)
+
 close-sound : (l : List ℤ) (n : ℕ) (k : Closing) → 1 ≤ n → Fine l (closeRead l n k)
 unfolding closeRead
 close-sound l n k h = unless l (Close k) n h tt
@@ -97,7 +108,8 @@ by-sound op l =
     cond-ind (Fine l) (eqb op 8) (λ _. rgb-sound l) (λ _.
     cond-ind (Fine l) (eqb op 9) (λ _. close-sound l 3 (Lab (labWords l)) (omega arith)) (λ _.
     cond-ind (Fine l) (eqb op 10) (λ _. close-sound l 1 NoMark (omega arith)) (λ _.
-    cond-ind (Fine l) (eqb op 11) (λ _. close-sound l 1 EveryInk (omega arith)) (λ _. nothing l)))))))))))
+    cond-ind (Fine l) (eqb op 11) (λ _. close-sound l 1 EveryInk (omega arith)) (λ _.
+    cond-ind (Fine l) (eqb op 12) (λ _. program-sound l) (λ _. nothing l))))))))))))
 
 -- every step that is read takes 1 to `length l` words, and its small numbers are in range
 pub step-sound : (l : List ℤ) → Sound l (stepOf l)
@@ -150,6 +162,7 @@ open-step : (n c : ℕ) (l : List ℤ) (v : Colour) (size : ℕ) (s : Step) → 
 open-step n c l v size (Limit k lo hi) isnt = refl
 open-step n c l v size (Row m h) isnt = refl
 open-step n c l v size (Tint e m) isnt = refl
+open-step n c l v size (Program m k) isnt = refl
 open-step n c l v size (Close k) isnt = absurd (isnt k refl)
 
 -- ---- the loop: a step read off the words from `at` on

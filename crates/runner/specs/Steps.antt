@@ -8,12 +8,13 @@ use lib.Dec.{ltb, leb, eqb}
 use lib.ListN.{length}
 use Rattle.fixed.specs.Numbers.{exponentSupported, gammaSupported}
 use Rattle.fixed.specs.Values.{value, smallOf, places}
+use Rattle.form.specs.Steps.{formAt}
 use Rattle.cie.specs.declared.GrayClosing.{GrayClosing}
 use Rattle.cie.specs.declared.RgbClosing.{RgbClosing}
 use Rattle.cie.specs.declared.LabClosing.{LabClosing}
 use Rattle.cie.specs.declared.Closing.{Closing}
 use Rattle.cie.specs.declared.Closing.the-variants.{Gray, Rgb, Cmyk, CalGray, CalRgb, Lab, NoMark, EveryInk}
-use Rattle.runner.specs.declared.Step.the-variants.{Limit, Row, Tint, Close}
+use Rattle.runner.specs.declared.Step.the-variants.{Limit, Row, Tint, Program, Close}
 use Rattle.runner.specs.declared.Read.{Read}
 use Rattle.runner.specs.declared.Read.the-variants.{At, Nothing}
 
@@ -43,6 +44,13 @@ tintRead l =
     cond (exponentSupported (smallOf (value l 1)) && fills (smallOf (value l 2)))
     (cond (ltb (length l) (3 + 2 * smallOf (value l 2))) Nothing
     (At (Tint (smallOf (value l 1)) (smallOf (value l 2))) (3 + 2 * smallOf (value l 2))))
+    Nothing
+
+-- 12 m n and n words: the flat form of a program that leaves m numbers
+unfoldable pub programRead : List ℤ → Read
+programRead l =
+    cond (formAt l 3 (smallOf (value l 2)) (smallOf (value l 1)))
+    (At (Program (smallOf (value l 1)) (smallOf (value l 2))) (3 + smallOf (value l 2)))
     Nothing
 
 -- a closing step of n words
@@ -98,7 +106,8 @@ stepBy op l =
     (cond (eqb op 9) (closeRead l 3 (Lab (labWords l)))
     (cond (eqb op 10) (closeRead l 1 NoMark)
     (cond (eqb op 11) (closeRead l 1 EveryInk)
-    Nothing))))))))))
+    (cond (eqb op 12) (programRead l)
+    Nothing)))))))))))
 
 -- no step begins with a word 0, so none is read off an empty list
 abbrev pub stepOf : List ℤ → Read

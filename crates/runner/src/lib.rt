@@ -8,7 +8,7 @@ mod words;
 use cie::Closing;
 pub use running::run;
 
-// A step of a recipe, with its numbers; entries, C0s and C1s are read off its words.
+// A step of a recipe, with its numbers; entries, C0s, C1s and a program's words are read off its words.
 pub enum Step {
     // Limit value k to lo..hi.
     Limit(u32, i32, i32),
@@ -16,6 +16,8 @@ pub enum Step {
     Row(u32, u32),
     // The tint to the exponent e, and m components of the alternate space.
     Tint(u32, u32),
+    // The program that leaves m numbers, of n words.
+    Program(u32, u32),
     // The closing step.
     Close(Closing),
 }

@@ -16,7 +16,7 @@ use Rattle.record.specs.declared.types.CalRgb.{CalRgb as RgbSpace}
 use Rattle.record.specs.declared.types.Lab.{Lab as LabSpace}
 use Rattle.record.specs.declared.types.Separation.{Separation as Ink}
 use Rattle.record.specs.declared.types.Body.{Body}
-use Rattle.record.specs.declared.types.Body.the-variants.{Free, CalGray, CalRgb, Lab, Indexed, Separation, Palette}
+use Rattle.record.specs.declared.types.Body.the-variants.{Free, CalGray, CalRgb, Lab, Indexed, Separation, Palette, Program}
 use Rattle.record.specs.declared.types.Record.{Record}
 use Rattle.record.specs.Layout.{kindOf, blockOf}
 use Rattle.record.specs.Reading.{recordAt}
@@ -81,7 +81,8 @@ bodyOf k v =
     (cond (eqb k 3) (Lab (labOf v))
     (cond (eqb k 4) (Indexed (twoOf v 2) (twoOf v 3))
     (cond (eqb k 5) (Separation (inkOf v))
-    (cond (eqb k 6) Palette Free)))))
+    (cond (eqb k 6) Palette
+    (cond (eqb k 7) Program Free))))))
 
 -- the record of the numbers and the first 504 bytes
 unfoldable pub recordOf : List ℤ → List ℕ → Record
@@ -108,6 +109,7 @@ bodyNumbers (Lab g) = three (g .white) (three (g .black) (ranges (g .range) []))
 bodyNumbers (Indexed base hival) = pos base ∷ pos hival ∷ []
 bodyNumbers (Separation p) = pos (p .alternate) ∷ pos (p .exponent) ∷ pos (p .«name_len») ∷ four (p .c0) (four (p .c1) [])
 bodyNumbers Palette = []
+bodyNumbers Program = []
 
 -- own number and kind before them, and zeros after them: 20 numbers
 abbrev pub headed : ℕ → Body → List ℤ
@@ -127,9 +129,9 @@ namedCount y = 2 + length (bodyNumbers y)
 unfoldable pub zeroFrom : List ℤ → ℕ → Bool
 zeroFrom v from = allBetween (λ k. eqb (small v k) 0) from 20
 
--- a kind 0..6, and zeros where the body names no number: else they are refused with 3
+-- a kind 0..7, and zeros where the body names no number: else they are refused with 3
 unfoldable pub recordLike : List ℤ → Bool
-recordLike v = leb (small v 1) 6 && zeroFrom v (namedCount (bodyOf (small v 1) v))
+recordLike v = leb (small v 1) 7 && zeroFrom v (namedCount (bodyOf (small v 1) v))
 
 -- ---- what the two functions come to
 

@@ -127,5 +127,6 @@ pub fn numbers_of(own: u16, y: Body) -> [i32; 20]
         Body::Indexed { base, hival } => indexed_numbers(own, base, hival),
         Body::Separation(p) => ink_numbers(own, p),
         Body::Palette => bare_numbers(own, 6),
+        Body::Program => bare_numbers(own, 7),
     }
 }

@@ -50,7 +50,7 @@ pub fn is_record_like(v: &[i32]) -> bool
 {
     let kind = small_at(v, 1);
     let from = named_count(kind);
-    (kind <= 6) & is_zero_from(v, from)
+    (kind <= 7) & is_zero_from(v, from)
 }
 
 // Number k in a field of one byte: as FF where that has no room for it.
@@ -187,6 +187,7 @@ fn body_of(kind: u32, v: &[i32]) -> Body
         4 => indexed_of(v),
         5 => Body::Separation(ink_of(v)),
         6 => Body::Palette,
+        7 => Body::Program,
         _ => Body::Free,
     }
 }

@@ -104,6 +104,10 @@ fn say_body(y: Body, bytes: &[u8]) {
             say(b" 6 x");
             say_dotted(bytes);
         }
+        Body::Program => {
+            say(b" 7 x");
+            say_dotted(bytes);
+        }
     }
 }
 
@@ -243,6 +247,7 @@ fn body_of(v: [i32; 24]) -> Body {
         },
         5 => separation_of(v),
         6 => Body::Palette,
+        7 => Body::Program,
         _ => Body::Free,
     }
 }

@@ -11,10 +11,10 @@ use Rattle.record.specs.Layout.{kindOf}
 use Rattle.record.specs.Reading.{bodyAt, theNone, theAll, nameIs}
 use Rattle.record.specs.declared.types.Separation.{Separation as Ink}
 use Rattle.record.specs.declared.types.Body.{Body}
-use Rattle.record.specs.declared.types.Body.the-variants.{Free, CalGray, CalRgb, Lab, Indexed, Separation, Palette}
+use Rattle.record.specs.declared.types.Body.the-variants.{Free, CalGray, CalRgb, Lab, Indexed, Separation, Palette, Program}
 use Rattle.space.specs.Numbers.{asked}
 use Rattle.space.specs.Spaces.{Space, gray, rgb, cmyk, none, noMark, everyInk, countOf}
-use Rattle.space.specs.Pages.{deviceOf, plainOf, plainAt, separationOver, inkOf, tintedOf, spaceOf, spaceAt}
+use Rattle.space.specs.Pages.{deviceOf, plainOf, plainAt, separationOver, calculatedOver, inkOf, tintedOf, spaceOf, spaceAt}
 
 -- a space has components
 abbrev some : Space → Bool
@@ -32,15 +32,16 @@ unfolding deviceOf
 device-some n = by-code (eqb n grayCode) (eqb n rgbCode) (eqb n cmykCode)
 
 -- a Separation has one component, whatever its name
-by-name : (a b : Bool) (p : Ink) (s : Space) → some (cond a noMark (cond b everyInk (separationOver p s))) ≡ true
-by-name true b p s = refl
-by-name false true p s = refl
-by-name false false p s = refl
+by-name : (a b e : Bool) (page : List ℕ) (n : ℕ) (p : Ink) (s : Space) → some (cond a noMark (cond b everyInk (cond e (calculatedOver page n s) (separationOver p s)))) ≡ true
+by-name true b e page n p s = refl
+by-name false true e page n p s = refl
+by-name false false true page n p s = refl
+by-name false false false page n p s = refl
 
 module _ (page : List ℕ) (n : ℕ) where
   pub ink-some : (p : Ink) → some (inkOf page n p) ≡ true
   unfolding inkOf
-  ink-some p = by-name (nameIs (blockAt page n) theNone) (nameIs (blockAt page n) theAll) p (plainAt page (p .alternate))
+  ink-some p = by-name (nameIs (blockAt page n) theNone) (nameIs (blockAt page n) theAll) (eqb (p .exponent) 0) page n p (plainAt page (p .alternate))
 
   body-some : (y : Body) → some (spaceOf page n y) ≡ (leb 1 (kindOf y) && leb (kindOf y) 5)
   unfolding spaceOf tintedOf plainOf
@@ -51,6 +52,7 @@ module _ (page : List ℕ) (n : ℕ) where
   body-some (Indexed base hival) = refl
   body-some (Separation p) = ink-some p
   body-some Palette = refl
+  body-some Program = refl
 
   -- no block has a device code for its number
   no-device : n < blocks → device n ≡ false

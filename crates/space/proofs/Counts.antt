@@ -10,11 +10,14 @@ use Rattle.fixed.specs.Values.{places}
 use Rattle.fixed.proofs.Listed.{listed-length}
 use Rattle.record.specs.Layout.{entriesOf}
 use Rattle.record.specs.declared.types.Separation.{Separation as Ink}
-use Rattle.space.specs.Spaces.{Space, none, gray, rgb, cmyk, calGray, calRgb, lab, noMark, everyInk, separation, indexed, countOf, limitCount, wordsOf}
+use Rattle.program.specs.Texts.{readOf}
+use Rattle.calculator.specs.Calculator.{wordsBy, programRun, runText, codeAfter}
+use Rattle.calculator.proofs.Runs.{words-code}
+use Rattle.space.specs.Spaces.{Space, none, gray, rgb, cmyk, calGray, calRgb, lab, noMark, everyInk, separation, calculated, indexed, countOf, limitCount, wordsOf}
 use Rattle.space.specs.Pages.{entries, tableOf, c0Of, c1Of, plainAt, tintedAt}
 use Rattle.space.specs.Levels.{spaceIn}
 use Rattle.space.specs.declared.nesting.Level.{Level}
-use Rattle.space.specs.declared.nesting.Level.the-variants.{Separation, Indexed}
+use Rattle.space.specs.declared.nesting.Level.the-variants.{Separation, Program, Indexed}
 
 pub count-high : (s : Space) → countOf s ≤ places
 count-high none = omega arith
@@ -27,6 +30,7 @@ count-high (lab k al ah bl bh) = omega arith
 count-high noMark = omega arith
 count-high everyInk = omega arith
 count-high (separation e c0 c1 s) = omega arith
+count-high (calculated c s) = omega arith
 count-high (indexed h t s) = omega arith
 
 pub limits-high : (s : Space) → limitCount s ≤ places
@@ -40,6 +44,7 @@ limits-high (lab k al ah bl bh) = omega arith
 limits-high noMark = omega arith
 limits-high everyInk = omega arith
 limits-high (separation e c0 c1 s) = omega arith
+limits-high (calculated c s) = omega arith
 limits-high (indexed h t s) = omega arith
 
 pub table-length : (page : List ℕ) (n hival : ℕ) (s : Space) → length (tableOf page n hival s) ≡ countOf s * (hival + 1)
@@ -67,3 +72,10 @@ module _ (page : List ℕ) {l : Level} {s : Space} {m r : ℕ} (em : m ≡ count
   pub words-indexed : (n base hival : ℕ) → l ≡ Indexed n base hival → s ≡ tintedAt page base → 3 + m * (hival + 1) + r ≡ wordsOf (spaceIn page l)
   unfolding spaceIn
   words-indexed n base hival el es = (λ i. 3 + (em ∙ ap countOf es) i * (hival + 1) + (er ∙ ap wordsOf es) i) ∙ sym (ap (λ (k : Level). wordsOf (spaceIn page k)) el)
+
+-- with the k words of a program, in the b blocks after block n
+pub words-calculated : (page : List ℕ) {l : Level} {s : Space} {r : ℕ} → r ≡ wordsOf s → (n alternate b k : ℕ) → l ≡ Program n alternate → s ≡ plainAt page alternate → b ≡ programRun page n → k ≡ length (wordsBy (readOf (runText page n b))) → 3 + k + r ≡ wordsOf (spaceIn page l)
+unfolding spaceIn codeAfter
+words-calculated page er n alternate b k el es eb ek =
+    let run = ap (λ (b : ℕ). length (wordsBy (readOf (runText page n b)))) eb in
+    (λ i. 3 + (ek ∙ run ∙ ap length (words-code (readOf (runText page n (programRun page n))))) i + (er ∙ ap wordsOf es) i) ∙ sym (ap (λ (k : Level). wordsOf (spaceIn page k)) el)

@@ -14,13 +14,14 @@ use Rattle.record.specs.Reading.{bodyAt, theNone, theAll, nameIs}
 use Rattle.record.specs.declared.types.Ranges.{Ranges}
 use Rattle.record.specs.declared.types.Separation.{Separation as Ink}
 use Rattle.record.specs.declared.types.Body.{Body}
-use Rattle.record.specs.declared.types.Body.the-variants.{Free, CalGray, CalRgb, Lab, Indexed as IndexedBody, Separation as SeparationBody, Palette}
-use Rattle.space.specs.Spaces.{Space, none, gray, rgb, cmyk, calGray, calRgb, lab, noMark, everyInk, separation, indexed}
-use Rattle.space.specs.Pages.{deviceOf, numbered, plainOf, plainAt, separationOver, inkOf, tintedOf, tintedAt, indexedOver, spaceOf, spaceAt}
+use Rattle.record.specs.declared.types.Body.the-variants.{Free, CalGray, CalRgb, Lab, Indexed as IndexedBody, Separation as SeparationBody, Palette, Program as ProgramBody}
+use Rattle.stack.specs.Programs.{Code}
+use Rattle.space.specs.Spaces.{Space, none, gray, rgb, cmyk, calGray, calRgb, lab, noMark, everyInk, separation, calculated, indexed}
+use Rattle.space.specs.Pages.{deviceOf, numbered, plainOf, plainAt, separationOver, calculatedOver, inkOf, tintedOf, tintedAt, indexedOver, spaceOf, spaceAt}
 use Rattle.space.specs.WellMade.{rankOf}
 use Rattle.space.specs.Levels.{plainIn, spaceIn, rankIn, noRanges, nothing, isNamed, inkLevel, levelOf, deviceClosing, levelAt}
 use Rattle.space.specs.declared.nesting.Level.{Level}
-use Rattle.space.specs.declared.nesting.Level.the-variants.{Plain, Separation, Indexed}
+use Rattle.space.specs.declared.nesting.Level.the-variants.{Plain, Separation, Program, Indexed}
 
 -- ---- What is read
 
@@ -28,26 +29,31 @@ use Rattle.space.specs.declared.nesting.Level.the-variants.{Plain, Separ
 abbrev pub tinted : Level → Level
 tinted (Plain c q) = Plain c q
 tinted (Separation p) = Separation p
+tinted (Program n alternate) = Program n alternate
 tinted (Indexed n base hival) = nothing
 
 abbrev pub plain : Level → Level
 plain (Plain c q) = cond (isNamed c) nothing (Plain c q)
 plain (Separation p) = nothing
+plain (Program n alternate) = nothing
 plain (Indexed n base hival) = nothing
 
 pub rank-most : (l : Level) → rankIn l ≤ 2
 rank-most (Plain c q) = omega arith
 rank-most (Separation p) = omega arith
+rank-most (Program n alternate) = omega arith
 rank-most (Indexed n base hival) = omega arith
 
 tinted-rank : (l : Level) → rankIn (tinted l) < 2
 tinted-rank (Plain c q) = omega arith
 tinted-rank (Separation p) = omega arith
+tinted-rank (Program n alternate) = omega arith
 tinted-rank (Indexed n base hival) = omega arith
 
 plain-falls : (l : Level) → rankIn (plain l) < 1
 plain-falls (Plain c q) = cond-ind (λ (l : Level). rankIn l < 1) (isNamed c) (λ _. omega arith) (λ _. omega arith)
 plain-falls (Separation p) = omega arith
+plain-falls (Program n alternate) = omega arith
 plain-falls (Indexed n base hival) = omega arith
 
 -- a device space
@@ -88,30 +94,33 @@ module _ (page : List ℕ) (n : ℕ) where
   module _ (p : Ink) where
     ink-is : spaceIn page (inkLevel page n p) ≡ inkOf page n p
     unfolding spaceIn inkLevel inkOf
-    ink-is = by-names (nameIs (blockAt page n) theNone) (nameIs (blockAt page n) theAll)
+    ink-is = by-names (nameIs (blockAt page n) theNone) (nameIs (blockAt page n) theAll) (eqb (p .exponent) 0)
       where
-        by-names : (a b : Bool) → spaceIn page (cond a (Plain NoMark noRanges) (cond b (Plain EveryInk noRanges) (Separation p))) ≡ cond a noMark (cond b everyInk (separationOver p (plainAt page (p .alternate))))
-        by-names true b = refl
-        by-names false true = refl
-        by-names false false = refl
+        by-names : (a b e : Bool) → spaceIn page (cond a (Plain NoMark noRanges) (cond b (Plain EveryInk noRanges) (cond e (Program n (p .alternate)) (Separation p)))) ≡ cond a noMark (cond b everyInk (cond e (calculatedOver page n (plainAt page (p .alternate))) (separationOver p (plainAt page (p .alternate)))))
+        by-names true b e = refl
+        by-names false true e = refl
+        by-names false false true = refl
+        by-names false false false = refl
 
     ink-tinted : tinted (inkLevel page n p) ≡ inkLevel page n p
     unfolding inkLevel
-    ink-tinted = by-names (nameIs (blockAt page n) theNone) (nameIs (blockAt page n) theAll)
+    ink-tinted = by-names (nameIs (blockAt page n) theNone) (nameIs (blockAt page n) theAll) (eqb (p .exponent) 0)
       where
-        by-names : (a b : Bool) → tinted (cond a (Plain NoMark noRanges) (cond b (Plain EveryInk noRanges) (Separation p))) ≡ cond a (Plain NoMark noRanges) (cond b (Plain EveryInk noRanges) (Separation p))
-        by-names true b = refl
-        by-names false true = refl
-        by-names false false = refl
+        by-names : (a b e : Bool) → tinted (cond a (Plain NoMark noRanges) (cond b (Plain EveryInk noRanges) (cond e (Program n (p .alternate)) (Separation p)))) ≡ cond a (Plain NoMark noRanges) (cond b (Plain EveryInk noRanges) (cond e (Program n (p .alternate)) (Separation p)))
+        by-names true b e = refl
+        by-names false true e = refl
+        by-names false false true = refl
+        by-names false false false = refl
 
     ink-plain : plain (inkLevel page n p) ≡ nothing
     unfolding inkLevel
-    ink-plain = by-names (nameIs (blockAt page n) theNone) (nameIs (blockAt page n) theAll)
+    ink-plain = by-names (nameIs (blockAt page n) theNone) (nameIs (blockAt page n) theAll) (eqb (p .exponent) 0)
       where
-        by-names : (a b : Bool) → plain (cond a (Plain NoMark noRanges) (cond b (Plain EveryInk noRanges) (Separation p))) ≡ nothing
-        by-names true b = refl
-        by-names false true = refl
-        by-names false false = refl
+        by-names : (a b e : Bool) → plain (cond a (Plain NoMark noRanges) (cond b (Plain EveryInk noRanges) (cond e (Program n (p .alternate)) (Separation p)))) ≡ nothing
+        by-names true b e = refl
+        by-names false true e = refl
+        by-names false false true = refl
+        by-names false false false = refl
 
   same-space : (y : Body) → spaceIn page (levelOf page n y) ≡ spaceOf page n y
   unfolding spaceIn levelOf spaceOf tintedOf plainOf
@@ -122,6 +131,7 @@ module _ (page : List ℕ) (n : ℕ) where
   same-space (IndexedBody base hival) = refl
   same-space (SeparationBody p) = ink-is p
   same-space Palette = refl
+  same-space ProgramBody = refl
 
   same-tinted : (y : Body) → spaceIn page (tinted (levelOf page n y)) ≡ tintedOf page n y
   unfolding spaceIn levelOf tintedOf plainOf
@@ -132,6 +142,7 @@ module _ (page : List ℕ) (n : ℕ) where
   same-tinted (IndexedBody base hival) = refl
   same-tinted (SeparationBody p) = ap (spaceIn page) (ink-tinted p) ∙ ink-is p
   same-tinted Palette = refl
+  same-tinted ProgramBody = refl
 
   same-plain : (y : Body) → spaceIn page (plain (levelOf page n y)) ≡ plainOf y
   unfolding spaceIn levelOf plainOf
@@ -142,6 +153,7 @@ module _ (page : List ℕ) (n : ℕ) where
   same-plain (IndexedBody base hival) = refl
   same-plain (SeparationBody p) = ap (spaceIn page) (ink-plain p)
   same-plain Palette = refl
+  same-plain ProgramBody = refl
 
   space-is : spaceIn page (levelAt page n) ≡ spaceAt page n
   space-is = level-is (λ l. l) refl (spaceOf page n) same-space
@@ -188,12 +200,13 @@ body-rank (Lab g) = omega arith
 body-rank (IndexedBody base hival) = omega arith
 body-rank (SeparationBody p) = omega arith
 body-rank Palette = omega arith
+body-rank ProgramBody = omega arith
 
 pub plain-rank : (page : List ℕ) (n : ℕ) → rankOf (plainAt page n) < 1
 plain-rank page n = numbered-ind (λ (s : Space). rankOf s < 1) (omega arith) (omega arith) (omega arith) (omega arith) page plainOf n (body-rank _)
 
--- what holds of plain spaces, and is handed on to a Separation over one, and to an Indexed over either
-module _ (page : List ℕ) (P : Space → Type 0) (plains : (s : Space) → rankOf s < 1 → P s) (separated : (p : Ink) (s : Space) → rankOf s < 1 → P s → P (separationOver p s)) where
+-- what holds of plain spaces, and is handed on to a Separation over one, by its exponent or its program, and to an Indexed over either
+module _ (page : List ℕ) (P : Space → Type 0) (plains : (s : Space) → rankOf s < 1 → P s) (separated : (p : Ink) (s : Space) → rankOf s < 1 → P s → P (separationOver p s)) (calculates : (n : ℕ) (s : Space) → rankOf s < 1 → P s → P (calculatedOver page n s)) where
   over-plain : (y : Body) → P (plainOf y)
   over-plain y = plains _ (body-rank y)
 
@@ -207,8 +220,11 @@ module _ (page : List ℕ) (P : Space → Type 0) (plains : (s : Space) → rank
   over-tinted n (SeparationBody p) =
       cond-ind P (nameIs (blockAt page n) theNone) (λ _. plains noMark (omega arith)) (λ _.
       cond-ind P (nameIs (blockAt page n) theAll) (λ _. plains everyInk (omega arith)) (λ _.
-      separated p (plainAt page (p .alternate)) (plain-rank page (p .alternate)) (plains _ (plain-rank page (p .alternate)))))
+      cond-ind P (eqb (p .exponent) 0)
+      (λ _. calculates n (plainAt page (p .alternate)) (plain-rank page (p .alternate)) (plains _ (plain-rank page (p .alternate))))
+      (λ _. separated p (plainAt page (p .alternate)) (plain-rank page (p .alternate)) (plains _ (plain-rank page (p .alternate))))))
   over-tinted n Palette = over-plain Palette
+  over-tinted n ProgramBody = over-plain ProgramBody
 
   among : (f : Body → Space) (n : ℕ) → P (f (bodyAt (blockAt page n))) → P (numbered page f n)
   among = numbered-ind P (plains none (omega arith)) (plains gray (omega arith)) (plains rgb (omega arith)) (plains cmyk (omega arith)) page
@@ -226,21 +242,23 @@ module _ (page : List ℕ) (P : Space → Type 0) (plains : (s : Space) → rank
     over-space n (IndexedBody base hival) = indexes n hival (tintedAt page base) (tinted-ind base)
     over-space n (SeparationBody p) = over-tinted n (SeparationBody p)
     over-space n Palette = over-tinted n Palette
+    over-space n ProgramBody = over-tinted n ProgramBody
 
     pub space-ind : (n : ℕ) → P (spaceAt page n)
     space-ind n = among (spaceOf page n) n (over-space n _)
 
--- a space is plain, a Separation or an Indexed
-pub by-rank : (P : Space → Type 0) → ((s : Space) → rankOf s < 1 → P s) → ((e : ℕ) (c0 c1 : List ℤ) (s : Space) → P (separation e c0 c1 s))
+-- a space is plain, a Separation, one with a program, or an Indexed
+pub by-rank : (P : Space → Type 0) → ((s : Space) → rankOf s < 1 → P s) → ((e : ℕ) (c0 c1 : List ℤ) (s : Space) → P (separation e c0 c1 s)) → ((c : Code) (s : Space) → P (calculated c s))
     → ((h : ℕ) (t : List ℤ) (s : Space) → P (indexed h t s)) → (s : Space) → P s
-by-rank P a b c none = a none (omega arith)
-by-rank P a b c gray = a gray (omega arith)
-by-rank P a b c rgb = a rgb (omega arith)
-by-rank P a b c cmyk = a cmyk (omega arith)
-by-rank P a b c (calGray k) = a (calGray k) (omega arith)
-by-rank P a b c (calRgb k) = a (calRgb k) (omega arith)
-by-rank P a b c (lab k al ah bl bh) = a (lab k al ah bl bh) (omega arith)
-by-rank P a b c noMark = a noMark (omega arith)
-by-rank P a b c everyInk = a everyInk (omega arith)
-by-rank P a b c (separation e c0 c1 s) = b e c0 c1 s
-by-rank P a b c (indexed h t s) = c h t s
+by-rank P a b d c none = a none (omega arith)
+by-rank P a b d c gray = a gray (omega arith)
+by-rank P a b d c rgb = a rgb (omega arith)
+by-rank P a b d c cmyk = a cmyk (omega arith)
+by-rank P a b d c (calGray k) = a (calGray k) (omega arith)
+by-rank P a b d c (calRgb k) = a (calRgb k) (omega arith)
+by-rank P a b d c (lab k al ah bl bh) = a (lab k al ah bl bh) (omega arith)
+by-rank P a b d c noMark = a noMark (omega arith)
+by-rank P a b d c everyInk = a everyInk (omega arith)
+by-rank P a b d c (separation e c0 c1 s) = b e c0 c1 s
+by-rank P a b d c (calculated k s) = d k s
+by-rank P a b d c (indexed h t s) = c h t s

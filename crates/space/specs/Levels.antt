@@ -13,11 +13,11 @@ use Rattle.record.specs.Reading.{bodyAt, theNone, theAll, nameIs}
 use Rattle.record.specs.declared.types.Ranges.{Ranges}
 use Rattle.record.specs.declared.types.Separation.{Separation as Ink}
 use Rattle.record.specs.declared.types.Body.{Body}
-use Rattle.record.specs.declared.types.Body.the-variants.{Free, CalGray as GrayBody, CalRgb as RgbBody, Lab as LabBody, Indexed as IndexedBody, Separation as SeparationBody, Palette}
+use Rattle.record.specs.declared.types.Body.the-variants.{Free, CalGray as GrayBody, CalRgb as RgbBody, Lab as LabBody, Indexed as IndexedBody, Separation as SeparationBody, Palette, Program as ProgramBody}
 use Rattle.space.specs.Spaces.{Space, none, gray, rgb, cmyk, calGray, calRgb, lab, noMark, everyInk, countOf, lowOf, highOf}
-use Rattle.space.specs.Pages.{grayNumbers, rgbNumbers, labNumbers, plainAt, separationOver, tintedAt, indexedOver}
+use Rattle.space.specs.Pages.{grayNumbers, rgbNumbers, labNumbers, plainAt, separationOver, calculatedOver, tintedAt, indexedOver}
 use Rattle.space.specs.declared.nesting.Level.{Level}
-use Rattle.space.specs.declared.nesting.Level.the-variants.{Plain, Separation, Indexed}
+use Rattle.space.specs.declared.nesting.Level.the-variants.{Plain, Separation, Program, Indexed}
 
 -- the plain space of a closing step, with the ranges of a Lab
 abbrev pub plainIn : Closing → Ranges → Space
@@ -39,12 +39,14 @@ noRanges = record { amin = pos 0; amax = pos 0; bmin = pos 0; bmax = pos 0 }
 unfoldable pub spaceIn : List ℕ → Level → Space
 spaceIn page (Plain c q) = plainIn c q
 spaceIn page (Separation p) = separationOver p (plainAt page (p .alternate))
+spaceIn page (Program n alternate) = calculatedOver page n (plainAt page alternate)
 spaceIn page (Indexed n base hival) = indexedOver page n hival (tintedAt page base)
 
 -- nesting falls: Indexed 2, Separation 1, plain 0
 abbrev pub rankIn : Level → ℕ
 rankIn (Plain c q) = 0
 rankIn (Separation p) = 1
+rankIn (Program n alternate) = 1
 rankIn (Indexed n base hival) = 2
 
 -- whether a closing step is Lab's
@@ -74,12 +76,13 @@ isNamed EveryInk = true
 abbrev pub nothing : Level
 nothing = Plain Nothing noRanges
 
--- that of the Separation p of block n, whose name decides
+-- that of the Separation p of block n, whose name decides, and then its exponent
 unfoldable pub inkLevel : List ℕ → ℕ → Ink → Level
 inkLevel page n p =
     cond (nameIs (blockAt page n) theNone) (Plain NoMark noRanges)
     (cond (nameIs (blockAt page n) theAll) (Plain EveryInk noRanges)
-    (Separation p))
+    (cond (eqb (p .exponent) 0) (Program n (p .alternate))
+    (Separation p)))
 
 -- the level of block n, whose body is given
 unfoldable pub levelOf : List ℕ → ℕ → Body → Level
@@ -90,6 +93,7 @@ levelOf page n (LabBody g) = Plain (Lab (labNumbers g)) (g .range)
 levelOf page n (IndexedBody base hival) = Indexed n base hival
 levelOf page n (SeparationBody p) = inkLevel page n p
 levelOf page n Palette = nothing
+levelOf page n ProgramBody = nothing
 
 -- the closing step of a device space, by its code
 unfoldable pub deviceClosing : ℕ → Closing

@@ -20,9 +20,10 @@ use Rattle.record.specs.declared.types.CalRgb.{CalRgb as RgbSpace}
 use Rattle.record.specs.declared.types.Lab.{Lab as LabSpace}
 use Rattle.record.specs.declared.types.Separation.{Separation as Ink}
 use Rattle.record.specs.declared.types.Body.{Body}
-use Rattle.record.specs.declared.types.Body.the-variants.{Free, CalGray, CalRgb, Lab, Indexed, Separation, Palette}
+use Rattle.record.specs.declared.types.Body.the-variants.{Free, CalGray, CalRgb, Lab, Indexed, Separation, Palette, Program}
+use Rattle.calculator.specs.Calculator.{codeAfter}
 use Rattle.space.specs.Numbers.{paletteByte}
-use Rattle.space.specs.Spaces.{Space, none, gray, rgb, cmyk, calGray, calRgb, lab, noMark, everyInk, separation, indexed, countOf, lowOf, highOf}
+use Rattle.space.specs.Spaces.{Space, none, gray, rgb, cmyk, calGray, calRgb, lab, noMark, everyInk, separation, calculated, indexed, countOf, lowOf, highOf}
 
 -- the numbers of a record that its closing step has: X and Z of the white point, gammas, the matrix
 abbrev pub grayNumbers : GraySpace → GrayClosing
@@ -65,6 +66,7 @@ plainOf (Lab g) = lab (labNumbers g) (g .range .amin) (g .range .amax) (g .range
 plainOf (Indexed base hival) = none
 plainOf (Separation p) = none
 plainOf Palette = none
+plainOf Program = none
 
 abbrev pub plainAt : List ℕ → ℕ → Space
 plainAt page n = numbered page plainOf n
@@ -79,12 +81,18 @@ c1Of p s = take (countOf s) (entriesOf (p .c1))
 abbrev pub separationOver : Ink → Space → Space
 separationOver p s = separation (p .exponent) (c0Of p s) (c1Of p s) s
 
--- the Separation p of block n: one named None never marks, one named All is every ink, and any other is answered in its alternate space
+-- the program in the blocks after block n, over the alternate s
+abbrev pub calculatedOver : List ℕ → ℕ → Space → Space
+calculatedOver page n s = calculated (codeAfter page n) s
+
+-- the Separation p of block n: one named None never marks, one named All is every ink, and any other is answered in its alternate space, by its program where its
+-- exponent is 0
 unfoldable pub inkOf : List ℕ → ℕ → Ink → Space
 inkOf page n p =
     cond (nameIs (blockAt page n) theNone) noMark
     (cond (nameIs (blockAt page n) theAll) everyInk
-    (separationOver p (plainAt page (p .alternate))))
+    (cond (eqb (p .exponent) 0) (calculatedOver page n (plainAt page (p .alternate)))
+    (separationOver p (plainAt page (p .alternate)))))
 
 -- block n with the body given: a Separation, or a plain space
 unfoldable pub tintedOf : List ℕ → ℕ → Body → Space
@@ -95,6 +103,7 @@ tintedOf page n (Lab g) = plainOf (Lab g)
 tintedOf page n (Indexed base hival) = plainOf (Indexed base hival)
 tintedOf page n (Separation p) = inkOf page n p
 tintedOf page n Palette = plainOf Palette
+tintedOf page n Program = plainOf Program
 
 abbrev pub tintedAt : List ℕ → ℕ → Space
 tintedAt page n = numbered page (tintedOf page n) n
@@ -127,6 +136,7 @@ spaceOf page n (Lab g) = tintedOf page n (Lab g)
 spaceOf page n (Indexed base hival) = indexedOver page n hival (tintedAt page base)
 spaceOf page n (Separation p) = tintedOf page n (Separation p)
 spaceOf page n Palette = tintedOf page n Palette
+spaceOf page n Program = tintedOf page n Program
 
 abbrev pub spaceAt : List ℕ → ℕ → Space
 spaceAt page n = numbered page (spaceOf page n) n

@@ -4,6 +4,9 @@ use mathlib.Core.Bool.{cond}
 use mathlib.Core.List.{List}
 use lib.IntN.{ℤ, pos}
 use lib.Dec.{eqb}
+use lib.ListN.{length}
+use Rattle.stack.specs.Programs.{Code}
+use Rattle.stack.specs.Flat.{flat}
 use Rattle.cie.specs.declared.GrayClosing.{GrayClosing}
 use Rattle.cie.specs.declared.RgbClosing.{RgbClosing}
 use Rattle.cie.specs.declared.LabClosing.{LabClosing}
@@ -11,8 +14,8 @@ use Rattle.cie.specs.declared.Closing.{Closing}
 use Rattle.cie.specs.declared.Closing.the-variants.{Nothing, Gray, Rgb, Cmyk, CalGray, CalRgb, Lab, NoMark, EveryInk}
 
 -- `none` is what a number that is no space's stands for. lab: amin amax bmin bmax. noMark and everyInk: a Separation named None, and one named All.
--- separation, of any other name: the exponent, C0 and C1 of the alternate's count, and the alternate. indexed: hival, the palette's values row by row, and
--- the base.
+-- separation, of any other name: the exponent, C0 and C1 of the alternate's count, and the alternate. calculated, of any other name too: the program in place of
+-- those, and the alternate. indexed: hival, the palette's values row by row, and the base.
 pub data Space : Type 0 where
   none : Space
   gray : Space
@@ -24,6 +27,7 @@ pub data Space : Type 0 where
   noMark : Space
   everyInk : Space
   separation : ℕ → List ℤ → List ℤ → Space → Space
+  calculated : Code → Space → Space
   indexed : ℕ → List ℤ → Space → Space
 
 -- component counts
@@ -38,6 +42,7 @@ countOf (lab k al ah bl bh) = 3
 countOf noMark = 1
 countOf everyInk = 1
 countOf (separation e c0 c1 s) = 1
+countOf (calculated c s) = 1
 countOf (indexed h t s) = 1
 
 -- the range of component k: Lab L* 0..100, a* and b* by Range, all others 0..1
@@ -55,6 +60,7 @@ lowOf (lab g al ah bl bh) k = pick3 (pos 0) al bl k
 lowOf noMark k = pos 0
 lowOf everyInk k = pos 0
 lowOf (separation e c0 c1 s) k = pos 0
+lowOf (calculated c s) k = pos 0
 lowOf (indexed h t s) k = pos 0
 
 abbrev pub highOf : Space → ℕ → ℤ
@@ -68,6 +74,7 @@ highOf (lab g al ah bl bh) k = pick3 (pos 100000000) ah bh k
 highOf noMark k = pos 1000000
 highOf everyInk k = pos 1000000
 highOf (separation e c0 c1 s) k = pos 1000000
+highOf (calculated c s) k = pos 1000000
 highOf (indexed h t s) k = pos 1000000
 
 -- how many of its components are limited: all, but that of a Separation named None
@@ -82,6 +89,7 @@ limitCount (lab k al ah bl bh) = 3
 limitCount noMark = 0
 limitCount everyInk = 1
 limitCount (separation e c0 c1 s) = 1
+limitCount (calculated c s) = 1
 limitCount (indexed h t s) = 1
 
 -- the closing step of a plain space
@@ -96,10 +104,11 @@ closingOf (lab k al ah bl bh) = Lab k
 closingOf noMark = NoMark
 closingOf everyInk = EveryInk
 closingOf (separation e c0 c1 s) = Nothing
+closingOf (calculated c s) = Nothing
 closingOf (indexed h t s) = Nothing
 
 -- the words of its recipe: Gray 6, RGB 14, CMYK 18, CalGray 9, CalRGB 26, Lab 16; None 2, All 6; Indexed adds 3 + m (hival + 1), Separation 3 + 2m, m being the
--- count of the space within. For `none` no recipe is written: it would be its count alone
+-- count of the space within, and one with a program 3 + the words of its flat form. For `none` no recipe is written: it would be its count alone
 abbrev pub wordsOf : Space → ℕ
 wordsOf none = 1
 wordsOf gray = 6
@@ -111,4 +120,5 @@ wordsOf (lab k al ah bl bh) = 16
 wordsOf noMark = 2
 wordsOf everyInk = 6
 wordsOf (separation e c0 c1 s) = 3 + 2 * countOf s + wordsOf s
+wordsOf (calculated c s) = 3 + length (flat c) + wordsOf s
 wordsOf (indexed h t s) = 3 + countOf s * (h + 1) + wordsOf s

@@ -5,7 +5,10 @@ use mathlib.Core.Bool.{true, false}
 use lib.Signed.{ltZ}
 use lib.ListN.{length}
 use Rattle.fixed.specs.Numbers.{exponentSupported, gammaSupported}
-use Rattle.space.specs.Spaces.{Space, none, gray, rgb, cmyk, calGray, calRgb, lab, noMark, everyInk, separation, indexed, countOf}
+use Rattle.stack.specs.Flat.{flat}
+use Rattle.form.specs.Steps.{fitting}
+use Rattle.calculator.specs.Calculator.{mostFlat}
+use Rattle.space.specs.Spaces.{Space, none, gray, rgb, cmyk, calGray, calRgb, lab, noMark, everyInk, separation, calculated, indexed, countOf}
 
 -- nesting falls: Indexed 2, Separation 1, plain 0
 abbrev pub rankOf : Space → ℕ
@@ -19,9 +22,11 @@ rankOf (lab k al ah bl bh) = 0
 rankOf noMark = 0
 rankOf everyInk = 0
 rankOf (separation e c0 c1 s) = 1
+rankOf (calculated c s) = 1
 rankOf (indexed h t s) = 2
 
--- gammas and exponents within the house limit, ranges in order, hival at most 255, lists as long as the inner space's count asks, and nesting that falls
+-- gammas and exponents within the house limit, ranges in order, programs that leave as many numbers as the alternate has components, hival at most 255, lists as
+-- long as the inner space's count asks, and nesting that falls
 unfoldable pub WellMade : Space → Type 0
 WellMade none = ⊥
 WellMade gray = Unit {0}
@@ -33,4 +38,5 @@ WellMade (lab k al ah bl bh) = (ltZ ah al ≡ false) × (ltZ bh bl ≡ false)
 WellMade noMark = Unit {0}
 WellMade everyInk = Unit {0}
 WellMade (separation e c0 c1 s) = (exponentSupported e ≡ true) × (length c0 ≡ countOf s) × (length c1 ≡ countOf s) × (rankOf s < 1) × WellMade s
+WellMade (calculated c s) = (fitting (countOf s) c ≡ true) × (length (flat c) ≤ mostFlat) × (rankOf s < 1) × WellMade s
 WellMade (indexed h t s) = (h ≤ 255) × (length t ≡ countOf s * (h + 1)) × (rankOf s < 2) × WellMade s

@@ -9,6 +9,8 @@ use crate::nesting::level_at;
 use crate::nesting::plain_at;
 use crate::nesting::tinted_at;
 use crate::ranges::count;
+use calculator::program_run;
+use calculator::run_words;
 use cie::Closing;
 
 // The words of a plain space's recipe; 1, the count alone, where there is no space.
@@ -39,6 +41,10 @@ pub fn words_in(page: &[u8], l: Level) -> u32
         Level::Separation(p) => {
             let s = plain_at(page, p.alternate);
             3 + 2 * count(s) + words_in(page, s)
+        }
+        Level::Program { block, alternate } => {
+            let s = plain_at(page, alternate);
+            3 + run_words(page, block, program_run(page, block)) as u32 + words_in(page, s)
         }
         Level::Indexed {
             block: _,

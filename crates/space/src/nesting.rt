@@ -23,8 +23,10 @@ pub enum Level {
     // A device space, CalGray, CalRGB or Lab, or a Separation named None or All: its closing step, and a Lab's ranges. A number that is no space's has the
     // closing step of nothing.
     Plain(Closing, Ranges),
-    // A Separation of any other name, with the number of its alternate.
+    // A Separation of any other name with its exponent, C0 and C1, and the number of its alternate.
     Separation(Separation),
+    // A Separation of any other name, whose program stands in the blocks after its own, with the number of its alternate.
+    Program { block: u16, alternate: u16 },
     // The Indexed space of a block, with the number of its base.
     Indexed { block: u16, base: u16, hival: u16 },
 }
@@ -108,6 +110,12 @@ fn ink_level(page: &[u8], n: u16, p: Separation) -> Level
     if is_name(page, n as u32, b"All") {
         return Level::Plain(Closing::EveryInk, no_ranges());
     }
+    if p.exponent == 0 {
+        return Level::Program {
+            block: n,
+            alternate: p.alternate,
+        };
+    }
     Level::Separation(p)
 }
 
@@ -127,6 +135,7 @@ fn level_of(page: &[u8], n: u16, y: Body) -> Level
         },
         Body::Separation(p) => ink_level(page, n, p),
         Body::Palette => nothing(),
+        Body::Program => nothing(),
     }
 }
 
@@ -178,6 +187,10 @@ pub fn tinted_at(page: &[u8], n: u16) -> Level
     match l {
         Level::Plain(_, _) => l,
         Level::Separation(_) => l,
+        Level::Program {
+            block: _,
+            alternate: _,
+        } => l,
         Level::Indexed {
             block: _,
             base: _,
@@ -200,6 +213,10 @@ pub fn plain_at(page: &[u8], n: u16) -> Level
             l
         }
         Level::Separation(_) => nothing(),
+        Level::Program {
+            block: _,
+            alternate: _,
+        } => nothing(),
         Level::Indexed {
             block: _,
             base: _,

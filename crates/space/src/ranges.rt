@@ -56,6 +56,10 @@ pub fn count(l: Level) -> u32
     match l {
         Level::Plain(c, _) => plain_count(c),
         Level::Separation(_) => 1,
+        Level::Program {
+            block: _,
+            alternate: _,
+        } => 1,
         Level::Indexed {
             block: _,
             base: _,
@@ -116,6 +120,10 @@ pub fn lows(l: Level) -> [i32; VALUES]
     match l {
         Level::Plain(c, q) => plain_lows(c, q),
         Level::Separation(_) => [0; VALUES],
+        Level::Program {
+            block: _,
+            alternate: _,
+        } => [0; VALUES],
         Level::Indexed {
             block: _,
             base: _,
@@ -131,6 +139,10 @@ pub fn highs(l: Level) -> [i32; VALUES]
     match l {
         Level::Plain(c, q) => plain_highs(c, q),
         Level::Separation(_) => [1000000; VALUES],
+        Level::Program {
+            block: _,
+            alternate: _,
+        } => [1000000; VALUES],
         Level::Indexed {
             block: _,
             base: _,

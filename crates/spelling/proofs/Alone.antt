@@ -1,11 +1,12 @@
 -- A record with nothing but a device space inside, and no palette: its block alone is an accepted page, and its text is that block. With what holds of
 -- every record this is `spellable : Spellable`.
 use mathlib.Core.Path.{_≡_, refl, ap, _∙_}
-use mathlib.Core.Bool.{true}
+use mathlib.Core.Bool.{true, false}
 use mathlib.Core.List.{List, [], _∷_, _++_, append-nil}
 use Prim.Native.Nat.{ℕ, zero, suc, _+_, _*_, _/_, _≤_, _<_}
 use native.Mathlib.Omega.{arith}
-use lib.Dec.{ltb}
+use borrow.Author.Tests.{ne-eqb}
+use lib.Dec.{eqb, ltb}
 use lib.ListN.{length}
 use Rattle.fixed.specs.Bytes.{blocks}
 use Rattle.fixed.proofs.Decide.{and-left, both}
@@ -16,13 +17,13 @@ use Rattle.record.specs.Rules.{wellFormed, wellShaped, lawful, supported, fault
 use Rattle.record.specs.Fits.{Fits}
 use Rattle.record.specs.declared.types.Separation.{Separation as Ink}
 use Rattle.record.specs.declared.types.Body.{Body}
-use Rattle.record.specs.declared.types.Body.the-variants.{Free, CalGray, CalRgb, Lab, Indexed, Separation, Palette}
+use Rattle.record.specs.declared.types.Body.the-variants.{Free, CalGray, CalRgb, Lab, Indexed, Separation, Palette, Program}
 use Rattle.record.specs.declared.types.Record.{Record}
 use Rattle.record.proofs.Shapes.{formed-shaped}
 use Rattle.block.proofs.Blocks.{Read, read-at}
 use Rattle.space.specs.Pages.{deviceOf}
 use Rattle.page.specs.Outcomes.{accepted}
-use Rattle.page.specs.Validation.{wellSized, faultOne, refersTo, permitted, within, claimedAt, wellFilled, faultClaimed, faultTwo, validated}
+use Rattle.page.specs.Validation.{wellSized, faultOne, refersTo, permitted, within, programFault, usedEntries, claimedAt, wellFilled, faultClaimed, faultTwo, validated}
 use Rattle.page.proofs.Accepted.{accepted-where}
 use Rattle.reader.specs.Texts.{textOf, page}
 use Rattle.objects.specs.Objects.{each}
@@ -40,6 +41,7 @@ module _ (d : Device) where
   own-zero own (Indexed base hival) suits = suits .1
   own-zero own (Separation p) suits = suits .1
   own-zero own Palette suits = absurd suits
+  own-zero own Program suits = absurd suits
 
   array-so : (own : ℕ) (y : Body) (s : List ℕ) → Suits 0 own y (device d) [] → isArray (spaceBy y s (device d) []) ≡ true
   array-so own Free s suits = absurd suits
@@ -49,6 +51,7 @@ module _ (d : Device) where
   array-so own (Indexed base hival) s suits = refl
   array-so own (Separation p) s suits = refl
   array-so own Palette s suits = absurd suits
+  array-so own Program s suits = absurd suits
 
 -- a palette has a byte
 no-palette : (d : Device) (hival : ℕ) → 0 ≡ componentsOf (device d) * (hival + 1) → ⊥
@@ -64,6 +67,11 @@ sole d own r (Lab g) suits = refl
 sole d own r (Indexed base hival) suits = absurd (no-palette d hival (suits .3))
 sole d own r (Separation p) suits = refl
 sole d own r Palette suits = absurd suits
+sole d own r Program suits = absurd suits
+
+-- an exponent of 1 or more means no program
+with-exponent : (e : ℕ) → 1 ≤ e → eqb e 0 ≡ false
+with-exponent e h = ne-eqb e 0 (λ z. omega arith)
 
 module _ (b : List ℕ) where
   permitted-device : (d : Device) (p : Ink) → p .alternate ≡ codeOf 0 (device d) → permitted b (Separation p) ≡ true
@@ -79,15 +87,16 @@ module _ (b : List ℕ) where
   within-device deviceCmyk p e = rw e
 
   second : (d : Device) (own : ℕ) (y : Body) → lawful y ≡ true → supported y ≡ true → Suits 0 own y (device d) [] → faultClaimed b 0 0 y ≡ 0
-  unfolding faultClaimed permitted wellFilled
+  unfolding faultClaimed permitted programFault usedEntries wellFilled
   second d own Free law limit suits = absurd suits
   second d own (CalGray g) law limit suits = rw (law, limit)
   second d own (CalRgb g) law limit suits = rw (law, limit)
   second d own (Lab g) law limit suits = rw (law, limit)
   second d own (Indexed base hival) law limit suits = absurd (no-palette d hival (suits .3))
   second d own (Separation p) law limit suits =
-      rw (law, limit, permitted-device d p (suits .2), within-device d p (suits .2), suits .3)
+      rw (law, limit, permitted-device d p (suits .2), with-exponent (p .exponent) (suits .4), within-device d p (suits .2), suits .3)
   second d own Palette law limit suits = absurd suits
+  second d own Program law limit suits = absurd suits
 
 module _ (r : Record) (d : Device) (typed : Fits r) (all : Bytes (r .bytes)) (ok : faultOf r ≡ 0) (suits : Suits 0 (r .own) (r .body) (device d) []) where
   abbrev b : List ℕ

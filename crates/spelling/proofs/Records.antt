@@ -1,11 +1,11 @@
--- Every record that the rules accept can be spelled out, and is among the records of what is spelled.
+-- Every record of a space without a program that the rules accept can be spelled out, and is among the records of what is spelled.
 use mathlib.Core.Path.{_≡_, refl, sym, ap, _∙_}
-use mathlib.Core.Bool.{true, _&&_, not}
+use mathlib.Core.Bool.{true, _&&_, _||_, not}
 use mathlib.Core.List.{List, [], _∷_, _++_}
 use Prim.Native.Nat.{ℕ, suc, _+_, _-_, _≤_, _<_, suc-le-suc}
 use native.Mathlib.Omega.{arith}
 use native.Mathlib.Decide.{decLt}
-use borrow.Author.Tests.{le-leb, leb-true, eqb-false, not-true}
+use borrow.Author.Tests.{le-leb, leb-true, eqb-true, eqb-false, not-true}
 use lib.Dec.{eqb, leb, ltb}
 use lib.IntN.{ℤ, pos, negsuc}
 use lib.ListN.{length, getD, take, length-take, List·getD-eq-default}
@@ -14,7 +14,8 @@ use mir.Syntax.{w32}
 use mir.Val.{SFits}
 use Rattle.fixed.specs.Bytes.{blocks}
 use Rattle.fixed.specs.Loops.{allFrom, zeroBetween}
-use Rattle.fixed.proofs.Decide.{and-left, and-right, both, passed}
+use Rattle.fixed.specs.Numbers.{exponentSupported}
+use Rattle.fixed.proofs.Decide.{and-left, and-right, or-ind, both, passed}
 use Rattle.fixed.proofs.Scans.{all-each}
 use Rattle.layout.specs.Field.{padded, FieldsFit, Bytes}
 use Rattle.layout.proofs.Held.{length-padded, getD-padded, zero-at}
@@ -23,7 +24,7 @@ use Rattle.record.specs.Rules.{isZero, noneZero, nameFits, wellNamed, used, wel
 use Rattle.record.specs.Fits.{Fits}
 use Rattle.record.specs.declared.types.Four.{Four}
 use Rattle.record.specs.declared.types.Body.{Body}
-use Rattle.record.specs.declared.types.Body.the-variants.{Free, CalGray, CalRgb, Lab, Indexed, Separation, Palette}
+use Rattle.record.specs.declared.types.Body.the-variants.{Free, CalGray, CalRgb, Lab, Indexed, Separation, Palette, Program}
 use Rattle.record.specs.declared.types.Record.{Record}
 use Rattle.page.specs.Validation.{runLength, unusedZero}
 use Rattle.objects.specs.Objects.{small, bytesFrom}
@@ -139,6 +140,13 @@ module _ (q : Four) where
   entries-small : AllSmall (entriesOf q) → (t : Space) → AllSmall (take (componentsOf t) (entriesOf q))
   entries-small all = by-count (λ m. AllSmall (take m (entriesOf q))) (all .0, tt) (all .0, (all .1 .0, (all .1 .1 .0, tt))) all
 
+-- an exponent that the rules of a record accept, 0 for a program or one of 1 to 4
+exponent-most : (n : ℕ) → (eqb n 0 || exponentSupported n) ≡ true → n ≤ 4
+exponent-most n e =
+    or-ind (eqb n 0) (exponentSupported n) e
+    (λ z. let h = eqb-true n 0 z in omega arith)
+    (λ l. leb-true n 4 (and-right (leb 1 n) _ l))
+
 -- ---- a record by its body
 
 module _ (n own : ℕ) (s : List ℕ) (inside : Space) (palette : List ℕ) (long : length s ≡ 504) (all : Bytes s) where
@@ -185,8 +193,8 @@ module _ (n own : ℕ) (s : List ℕ) (inside : Space) (palette : List ℕ) (lon
           some = omega (arith, name-some s (p .«name_len») name);
           few = omega arith;
           bytes = ink-bytes (p .«name_len») name;
-          least = leb-true 1 (p .exponent) (and-left (leb 1 (p .exponent)) (leb (p .exponent) 4) limit);
-          most = leb-true (p .exponent) 4 (and-right (leb 1 (p .exponent)) (leb (p .exponent) 4) limit);
+          least = suits .4;
+          most = exponent-most (p .exponent) limit;
           from = entries-length (p .c0) inside;
           to = entries-length (p .c1) inside;
           froms = entries-small (p .c0) froms inside;
@@ -194,6 +202,7 @@ module _ (n own : ℕ) (s : List ℕ) (inside : Space) (palette : List ℕ) (lon
         },
       )
   fits-by Palette h name law limit suits = absurd suits
+  fits-by Program h name law limit suits = absurd suits
 
   -- the room is its name and zeros
   room-back : (k : ℕ) → k ≤ 504 → ((i : ℕ) → k ≤ i → i < 504 → getD s i 0 ≡ 0) → padded 504 (take k s) ≡ s
@@ -239,6 +248,7 @@ module _ (n own : ℕ) (s : List ℕ) (inside : Space) (palette : List ℕ) (lon
       }
       ∷ []))
   among-by Palette name zeros suits = absurd suits
+  among-by Program name zeros suits = absurd suits
 
 -- ---- any record
 

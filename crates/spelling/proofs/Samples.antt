@@ -18,7 +18,7 @@ use Rattle.lexer.specs.Chars.{white, delimiter, regular}
 use Rattle.objects.specs.Objects.{nameByte, lastDigits, decimal, bare}
 use Rattle.space.specs.Pages.{deviceOf, plainOf, inkOf, tintedOf}
 use Rattle.page.specs.Outcomes.{accepted}
-use Rattle.page.specs.Validation.{wellSized, faultOne, refersTo, permitted, within, palettes, runFilled, unusedZero, claimedAfter, claimedAt, wellFilled, faultClaimed, faultTwo, validated}
+use Rattle.page.specs.Validation.{wellSized, faultOne, refersTo, permitted, within, palettes, runFilled, programFault, usedEntries, unusedZero, paletteClaimed, claimedAfter, claimedAt, wellFilled, faultClaimed, faultTwo, validated}
 use Rattle.reader.specs.Texts.{textOf, page}
 use Rattle.spelling.specs.Spaces.{Space, device, deviceRgb, deviceCmyk, calGray, calRgb, lab, indexed, separation, allBlocks, InkFits, Fitting, AllFitting, spelled, pageOf}
 use Rattle.spelling.proofs.ReadsBack.{page-length, reads-back}
@@ -85,7 +85,7 @@ Accepted [] = Unit
 Accepted (t ∷ ts) = (validated (pageOf (t ∷ [])) ≡ accepted) × Accepted ts
 
 all-accepted : Accepted samples
-unfolding pageOf blockOf headOf twoBytes fourBytes padded validated wellSized faultOne faultTwo faultClaimed claimedAt claimedAfter permitted refersTo within palettes runFilled unusedZero wellFilled checked plain weighed bodyBy wellLaid nameShown nameFits noneZero wellFormed lawful supported whitePoint blackPoint ordered paletteEnds entriesEnd gammaSupported numberAt total allFrom zeroBetween firstFrom deviceOf tintedOf inkOf nameIs plainOf
+unfolding pageOf blockOf headOf twoBytes fourBytes padded validated wellSized faultOne faultTwo faultClaimed claimedAt claimedAfter paletteClaimed permitted refersTo within palettes runFilled programFault usedEntries unusedZero wellFilled checked plain weighed bodyBy wellLaid nameShown nameFits noneZero wellFormed lawful supported whitePoint blackPoint ordered paletteEnds entriesEnd gammaSupported numberAt total allFrom zeroBetween firstFrom deviceOf tintedOf inkOf nameIs plainOf
 all-accepted = (refl, (refl, (refl, (refl, (refl, (refl, tt))))))
 
 -- ---- and reads back

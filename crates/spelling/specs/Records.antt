@@ -1,4 +1,5 @@
--- From a record to its text: the space that a record tells of, where the space inside it and its palette are given. Every record that the rules accept has one.
+-- From a record to its text: the space that a record tells of, where the space inside it and its palette are given. Every record that the rules
+-- accept has one, but for that of a Separation with a program: a text has no words for one.
 use Prim.Native.Nat.{ℕ, _+_, _*_, _≤_}
 use mathlib.Core.Path.{_≡_}
 use mathlib.Core.Bool.{true}
@@ -9,14 +10,14 @@ use Rattle.record.specs.Layout.{entriesOf, blockOf}
 use Rattle.record.specs.Rules.{faultOf}
 use Rattle.record.specs.Fits.{Fits}
 use Rattle.record.specs.declared.types.Body.{Body}
-use Rattle.record.specs.declared.types.Body.the-variants.{Free, CalGray, CalRgb, Lab, Indexed, Separation, Palette}
+use Rattle.record.specs.declared.types.Body.the-variants.{Free, CalGray, CalRgb, Lab, Indexed, Separation, Palette, Program}
 use Rattle.record.specs.declared.types.Record.{Record}
 use Rattle.page.specs.Validation.{runLength, unusedZero}
 use Rattle.reader.specs.Texts.{textOf, page}
 use Rattle.objects.specs.Objects.{bytesFrom}
 use Rattle.spelling.specs.Spaces.{Device, Space, device, calGray, calRgb, lab, indexed, separation, componentsOf, blocksOf, codeOf, recordsOf, palettes, Fitting, spelled}
 
--- s is the record's room, with a Separation's name. A free block and a palette's are no space's
+-- s is the record's room, with a Separation's name. A free block, a palette's and a program's are no space's
 abbrev pub spaceBy : Body → List ℕ → Space → List ℕ → Space
 spaceBy Free s inside palette = inside
 spaceBy (CalGray g) s inside palette = calGray g
@@ -27,13 +28,14 @@ spaceBy (Separation p) s inside palette =
     separation (take (p .«name_len») s) inside (p .exponent) (take (componentsOf inside) (entriesOf (p .c0)))
     (take (componentsOf inside) (entriesOf (p .c1)))
 spaceBy Palette s inside palette = inside
+spaceBy Program s inside palette = inside
 
 -- and so of the whole record
 abbrev pub spaceOf : Record → Space → List ℕ → Space
 spaceOf r inside palette = spaceBy (r .body) (r .bytes) inside palette
 
 -- the space inside suits the record, whose blocks are numbered from n on: the record's own number comes after that space's blocks, its reference is that
--- space, its palette has the length for it, and its spare entries are 0
+-- space, its palette has the length for it, and its spare entries are 0. A Separation has an exponent and no program
 abbrev pub Suits : ℕ → ℕ → Body → Space → List ℕ → Type 0
 Suits n own Free inside palette = ⊥
 Suits n own (CalGray g) inside palette = own ≡ n
@@ -50,7 +52,9 @@ Suits n own (Separation p) inside palette =
     × (own ≡ n + blocksOf inside)
     × (p .alternate ≡ codeOf n inside)
     × (unusedZero p (componentsOf inside) ≡ true)
+    × (1 ≤ p .exponent)
 Suits n own Palette inside palette = ⊥
+Suits n own Program inside palette = ⊥
 
 -- the records before its own: those of the space inside
 abbrev pub recordsBefore : ℕ → Body → Space → List Record
@@ -61,6 +65,7 @@ recordsBefore n (Lab g) inside = []
 recordsBefore n (Indexed base hival) inside = recordsOf n inside
 recordsBefore n (Separation p) inside = recordsOf n inside
 recordsBefore n Palette inside = []
+recordsBefore n Program inside = []
 
 -- and after it: its palette's
 abbrev pub recordsAfter : ℕ → Body → List ℕ → List Record
@@ -71,9 +76,10 @@ recordsAfter own (Lab g) palette = []
 recordsAfter own (Indexed base hival) palette = palettes (own + 1) (runLength (length palette)) palette
 recordsAfter own (Separation p) palette = []
 recordsAfter own Palette palette = []
+recordsAfter own Program palette = []
 
--- Every record of a space that the rules of a record accept, with bytes in its room, can be spelled out, and is itself among the records of what is
--- spelled: its own comes straight after those of the space inside it, and its palette's straight after it.
+-- Every record of a space that the rules of a record accept, with bytes in its room and no program, can be spelled out, and is itself among the records of
+-- what is spelled: its own comes straight after those of the space inside it, and its palette's straight after it.
 pub record Spellable : Type 0 where
   pub fits :
       (r : Record) (n : ℕ) (inside : Space) (palette : List ℕ)

@@ -6,7 +6,9 @@ use difference::fast;
 use reference::block::{BLOCK, DEVICE_CMYK, DEVICE_GRAY, DEVICE_RGB};
 use reference::generate::Rng;
 use reference::numbers::ONE;
-use reference::records::{cal_gray, cal_rgb, free, indexed_run, lab, page, separation, USUAL};
+use reference::records::{
+    cal_gray, cal_rgb, free, indexed_run, lab, page, program_run, separation, USUAL,
+};
 use sktelbaan::{TextReader, MOST_BLOCKS, PAGE_BYTES};
 use std::hint::black_box;
 use std::time::Instant;
@@ -17,6 +19,8 @@ const ROUNDS: usize = 301;
 const TEXT_ROUNDS: usize = 31;
 /// How many colours a round of `run` has, all different.
 const COLOURS: usize = 4096;
+/// How many where there is a program, which the rivals take long to look through.
+const FEWER_COLOURS: usize = 64;
 
 /// The least nanoseconds of a round.
 fn least(mut round: impl FnMut()) -> f64 {
@@ -59,13 +63,22 @@ impl Colours {
     }
 }
 
-/// A space to be measured: its name, its page and number, and the ranges of its components.
+/// A space to be measured: its name, its page and number, the ranges of its components, and how many colours a round has.
 struct Space {
     name: &'static str,
     page: Vec<u8>,
     number: u32,
     ranges: Vec<(i32, i32)>,
+    colours: usize,
 }
+
+/// A varnish's program over CMYK, of 100 tokens: a smooth step between two tests, twice, and four shares of it.
+const PROGRAM: &[u8] =
+    b"{ dup 0.05 le { pop 0 } { dup 0.95 ge { pop 1 } { 0.05 sub 1.111111 mul dup dup mul exch
+2 mul 3 exch sub mul } ifelse } ifelse dup 0.5 mul exch 0.5 mul add dup 0.05 le { pop 0
+} { dup 0.95 ge { pop 1 } { 0.05 sub 1.111111 mul dup dup mul exch 2 mul 3 exch sub mul
+} ifelse } ifelse dup 0.5 mul exch 0.5 mul add dup mul 1 exch sub dup 0.02 mul exch dup
+0.01 mul exch 0.08 mul 0 }";
 
 /// The spaces of which recipes are run, each on a page of no more blocks than it needs.
 fn spaces() -> Vec<Space> {
@@ -77,12 +90,14 @@ fn spaces() -> Vec<Space> {
         page: page(&[free(0)]),
         number: u32::from(code),
         ranges: vec![unit; count],
+        colours: COLOURS,
     };
     let space = |name, records: &[_], ranges: &[(i32, i32)]| Space {
         name,
         page: page(records),
         number: 0,
         ranges: ranges.to_vec(),
+        colours: COLOURS,
     };
     let bytes: Vec<u8> = (0..1024).map(|place| (place * 73 % 256) as u8).collect();
     let ink = [ONE, 200_000, 650_000, 150_000];
@@ -113,6 +128,14 @@ fn spaces() -> Vec<Space> {
             &[separation(0, DEVICE_CMYK, 2, [0; 4], ink)],
             &[unit],
         ),
+        Space {
+            colours: FEWER_COLOURS,
+            ..space(
+                "Separation over CMYK, a program of 100 tokens",
+                &program_run(0, DEVICE_CMYK, PROGRAM),
+                &[unit],
+            )
+        },
         space("Indexed over Separation over Lab", &nested, &[rows]),
     ]
 }
@@ -211,7 +234,8 @@ fn runs() {
     row("the shortest recipe, `1 4`", &[1, 4], &gray);
     for space in spaces() {
         let words = sktelbaan::recipe(&space.page, space.number).expect("the page is accepted");
-        row(space.name, &words, &Colours::new(&space.ranges, COLOURS));
+        let colours = Colours::new(&space.ranges, space.colours);
+        row(space.name, &words, &colours);
     }
 }
 

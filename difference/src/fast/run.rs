@@ -5,7 +5,7 @@ use reference::cie::Answer;
 use reference::colour::{Colour, Reply};
 use reference::numbers::{limit, ONE};
 use reference::recipe::MOST_WORDS;
-use reference::runner::{close, closing, step, Closing, Step};
+use reference::runner::{close, closing, flat, step, Closing, Step};
 
 /// Half-up rounding of n / d, for an n that 64 bits hold with room to spare.
 fn half_up(n: i64, d: i64) -> i64 {
@@ -52,6 +52,14 @@ fn take(step: Step<'_>, values: &mut [i32; 4]) -> bool {
             let q = tint_power(i64::from(tint), e);
             for (value, (c0, c1)) in values.iter_mut().zip(c0.iter().zip(c1)) {
                 *value = tint_value(*c0, *c1, q);
+            }
+            tint != before
+        }
+        Step::Program { m, words } => {
+            let before = values[0];
+            let tint = limit(before, 0, ONE);
+            for (value, left) in values.iter_mut().take(m).zip(flat::run(words, tint)) {
+                *value = left;
             }
             tint != before
         }

@@ -2,7 +2,8 @@
 
 use reference::block::{Body, BLOCK, BODY, MOST_BLOCKS, NAME};
 use reference::numbers::read_two;
-use reference::page::{block_at, family, Family};
+use reference::page::{block_at, family, Family, MOST_PROGRAM_BLOCKS};
+use reference::program::judge;
 
 /// Where a block's check begins.
 const CHECK_AT: usize = 508;
@@ -66,7 +67,7 @@ fn form_holds(block: &[u8; BLOCK]) -> bool {
         4 => 8,
         5 if !name_holds(&block[8..8 + NAME], block[7]) => return false,
         5 => 168,
-        6 => CHECK_AT,
+        6 | 7 => CHECK_AT,
         _ => return false,
     };
     all_zero(&block[named_to..CHECK_AT])
@@ -88,8 +89,34 @@ fn palette_run(page: &[u8], indexed: usize, bytes: usize) -> Option<usize> {
     Some(run)
 }
 
-/// Refusals 4, 5, 6 and 7 of one block on its page. `run_end` is the first block past every palette run found so
-/// far, and moves on with each Indexed block.
+/// How many blocks straight after a record with exponent 0 hold its program, which leaves so many numbers; 7 where there
+/// is none, where one but the last has a zero, or where a byte but zero follows the first zero; then 16 and 17.
+fn program_run(page: &[u8], record: usize, left: usize) -> Result<usize, u32> {
+    let mut text = Vec::new();
+    let mut run = 0;
+    let mut ended = false;
+    while run < MOST_PROGRAM_BLOCKS {
+        let Some(block) = block_at(page, record + run + 1).filter(|block| block[0] == 7) else {
+            break;
+        };
+        let body = &block[4..CHECK_AT];
+        let used = body.iter().position(|byte| *byte == 0).unwrap_or(BODY);
+        // No block is all zeros, so none may follow the one that ends the text.
+        if ended || used == 0 || !all_zero(&body[used..]) {
+            return Err(7);
+        }
+        ended = used < BODY;
+        text.extend_from_slice(&body[..used]);
+        run += 1;
+    }
+    if run == 0 {
+        return Err(7);
+    }
+    judge(&text, left).map(|_| run)
+}
+
+/// Refusals 4, 5, 6, 16, 17 and 7 of one block on its page. `run_end` is the first block past every run found so far, of
+/// palette blocks or of program blocks, and moves on with each record that has one: the blocks of a run are all of its kind.
 fn rules(page: &[u8], at: usize, block: &[u8; BLOCK], run_end: &mut usize) -> Result<(), u32> {
     let Some(body) = Body::of(block) else {
         return Err(3);
@@ -110,18 +137,26 @@ fn rules(page: &[u8], at: usize, block: &[u8; BLOCK], run_end: &mut usize) -> Re
             }
         }
         Body::Separation {
-            alternate, c0, c1, ..
+            alternate,
+            exponent,
+            c0,
+            c1,
+            ..
         } => {
             let alternate = match family(page, u32::from(alternate)) {
                 None | Some(Family::Indexed | Family::Separation) => return Err(6),
                 Some(alternate) => alternate,
             };
-            let past = alternate.components();
+            let mut past = alternate.components();
+            if exponent == 0 {
+                *run_end = at + 1 + program_run(page, at, past)?;
+                past = 0;
+            }
             if c0[past..].iter().chain(&c1[past..]).any(|v| *v != 0) {
                 return Err(7);
             }
         }
-        Body::Palette if at >= *run_end => return Err(7),
+        Body::Palette | Body::Program if at >= *run_end => return Err(7),
         _ => {}
     }
     Ok(())

@@ -29,7 +29,8 @@ pub fn form_holds(block: &[u8; BLOCK]) -> bool {
         3 => 44,
         4 => 8,
         5 => 168,
-        6 => CHECK_AT,
+        // Document 02: "calculator text in one to four blocks of new kind 7".
+        6 | 7 => CHECK_AT,
         _ => return false,
     };
     let name = &block[NAME_AT..NAME_AT + NAME];
@@ -53,7 +54,7 @@ impl Body {
     /// bmin <= bmax; hival 0 to 255."
     fn clause_holds(&self) -> bool {
         match self {
-            Body::Free | Body::Separation { .. } | Body::Palette => true,
+            Body::Free | Body::Separation { .. } | Body::Palette | Body::Program => true,
             Body::CalGray {
                 white,
                 black,
@@ -70,13 +71,13 @@ impl Body {
     }
 
     /// "House limits: ... each exponent is whole, 1 to 4 (the exponent byte counts units)"; a gamma "is a whole count
-    /// p of tenths, 0.1 to 4.0" (document 02, 2026-01).
+    /// p of tenths, 0.1 to 4.0" (document 02, 2026-01); "Exponent byte 0 now means a program" (2026-06).
     fn house_holds(&self) -> bool {
         let carried = |gamma: &i32| tenths(*gamma).is_some();
         match self {
             Body::CalGray { gamma, .. } => carried(gamma),
             Body::CalRgb { gammas, .. } => gammas.iter().all(carried),
-            Body::Separation { exponent, .. } => (1..=4).contains(exponent),
+            Body::Separation { exponent, .. } => (0..=4).contains(exponent),
             _ => true,
         }
     }
@@ -106,7 +107,7 @@ impl Record {
     fn form_holds(&self) -> bool {
         let (name, rest) = self.bytes.split_at(NAME);
         let bytes_hold = match self.body {
-            Body::Palette => true,
+            Body::Palette | Body::Program => true,
             Body::Separation { name_length, .. } => name_holds(name, name_length) && zero(rest),
             _ => zero(&self.bytes),
         };

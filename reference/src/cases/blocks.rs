@@ -356,11 +356,11 @@ fn orders(maker: &mut Maker) {
     maker.both(&label, &indexed(0, MOST, 256));
     let label = format!("own number {MOST} and base {MOST}, 3 before 6");
     maker.both(&label, &indexed(MOST, MOST, 0));
-    let five = separation(0, MOST, 0, [0; 4], [0; 4]);
-    let label = format!("exponent 0 and alternate {MOST}, 5 before 6");
+    let five = separation(0, MOST, 5, [0; 4], [0; 4]);
+    let label = format!("exponent 5 and alternate {MOST}, 5 before 6");
     maker.both(&label, &five);
     let mut three = five;
     three.bytes[1] = 0;
-    let label = format!("a zero byte in the name, exponent 0, alternate {MOST}");
+    let label = format!("a zero byte in the name, exponent 5, alternate {MOST}");
     maker.both(&label, &three);
 }

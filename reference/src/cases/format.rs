@@ -93,7 +93,7 @@ pub(super) fn bytes_of(words: &[i32]) -> Vec<u8> {
 /// The numbers of a record's body, in the order of the paper's table.
 pub(super) fn numbers_of(body: &Body) -> Vec<i32> {
     match body {
-        Body::Free | Body::Palette => Vec::new(),
+        Body::Free | Body::Palette | Body::Program => Vec::new(),
         Body::CalGray {
             white,
             black,

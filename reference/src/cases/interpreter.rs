@@ -133,6 +133,7 @@ pub(super) fn record_of(args: &[i32], given: &[u8]) -> Option<Record> {
             c1: c1.try_into().ok()?,
         },
         (6, []) => Body::Palette,
+        (7, []) => Body::Program,
         _ => return None,
     };
     let mut bytes = [0; BODY];
@@ -156,7 +157,7 @@ fn read_text(block: &[u8]) -> String {
     }
     match record.body {
         Body::Separation { .. } => text + " x" + &dotted(&record.bytes[..NAME]),
-        Body::Palette => text + " x" + &dotted(&record.bytes),
+        Body::Palette | Body::Program => text + " x" + &dotted(&record.bytes),
         _ => text,
     }
 }

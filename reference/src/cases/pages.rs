@@ -132,7 +132,7 @@ fn in_one_block(maker: &mut Maker) {
     maker.validate("4 before 7 in one block", &no_run);
     let tint =
         |alternate, exponent| page(&[separation(0, alternate, exponent, [0; 4], [0, 1, 0, 0])]);
-    maker.validate("5 before 6 in one block", &tint(MOST, 0));
+    maker.validate("5 before 6 in one block", &tint(MOST, 5));
     maker.validate("5 before 7 in one block", &tint(DEVICE_GRAY, 5));
     maker.validate("6 before 7 in one Separation block", &tint(MOST, 1));
     let lost = page(&[indexed(0, MOST, 0)]);
@@ -380,7 +380,7 @@ fn limits(maker: &mut Maker) {
     maker.validate("a zero byte in a name on a page", &name(9, 0));
     maker.validate("byte 135 of a Separation", &name(135, 1));
     maker.validate("byte 168 of a Separation", &name(168, 1));
-    maker.validate("kind 7 on a page", &changed(all_free(1), 0, |b| b[0] = 7));
+    maker.validate("kind 8 on a page", &changed(all_free(1), 0, |b| b[0] = 8));
     let mut check = all_free(2);
     check[508..510].fill(0xff);
     maker.validate("FFFF where check 0 is due, on a page", &check);

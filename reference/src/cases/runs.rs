@@ -210,12 +210,15 @@ fn least_runs(maker: &mut Maker) {
 
 /// Recipes about as long as may be.
 fn long_runs(maker: &mut Maker) {
-    let mut limits = vec![1];
-    for _ in 0..258 {
-        limits.extend([1, 0, 0, ONE]);
-    }
-    for rows in 6..10 {
-        let mut words = limits.clone();
+    // About the longest recipe that a page has, and about the longest of all.
+    for (limits, rows) in [258, 268]
+        .into_iter()
+        .flat_map(|n| (5..10).map(move |h| (n, h)))
+    {
+        let mut words = vec![1];
+        for _ in 0..limits {
+            words.extend([1, 0, 0, ONE]);
+        }
         words.extend([2, 1, rows]);
         words.extend(vec![5; rows as usize + 1]);
         words.push(4);

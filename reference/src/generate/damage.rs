@@ -61,20 +61,20 @@ pub fn repair(page: &mut [u8], number: usize) {
 
 /// A page to be broken, where the random numbers come from, and any block of the page. A place that the page does not
 /// have stays unaltered.
-struct Victim<'a> {
-    rng: &'a mut Rng,
-    page: &'a mut Vec<u8>,
-    any: usize,
+pub(super) struct Victim<'a> {
+    pub(super) rng: &'a mut Rng,
+    pub(super) page: &'a mut Vec<u8>,
+    pub(super) any: usize,
 }
 
 impl Victim<'_> {
     /// How many blocks the page has.
-    fn count(&self) -> usize {
+    pub(super) fn count(&self) -> usize {
         self.page.len() / BLOCK
     }
 
     /// One of the blocks that have one of these kinds; any block where there is none.
-    fn block_of_kind(&mut self, kinds: &[u8]) -> usize {
+    pub(super) fn block_of_kind(&mut self, kinds: &[u8]) -> usize {
         let blocks = self.page.chunks_exact(BLOCK).enumerate();
         let found: Vec<usize> = blocks
             .filter(|(_, block)| kinds.contains(&block[0]))
@@ -85,33 +85,47 @@ impl Victim<'_> {
     }
 
     /// The byte at this place of a block.
-    fn byte(&self, number: usize, at: usize) -> u8 {
+    pub(super) fn byte(&self, number: usize, at: usize) -> u8 {
         self.page.get(number * BLOCK + at).copied().unwrap_or(0)
     }
 
     /// Lays one byte into a block.
-    fn put_byte(&mut self, number: usize, at: usize, v: u8) {
+    pub(super) fn put_byte(&mut self, number: usize, at: usize, v: u8) {
         if let Some(byte) = self.page.get_mut(number * BLOCK + at) {
             *byte = v;
         }
     }
 
     /// Lays one byte into a block, and its check anew.
-    fn byte_repaired(&mut self, number: usize, at: usize, v: u8) {
+    pub(super) fn byte_repaired(&mut self, number: usize, at: usize, v: u8) {
         self.put_byte(number, at, v);
         repair(self.page, number);
     }
 
     /// Lays a two-byte number into a block, and its check anew.
-    fn two_repaired(&mut self, number: usize, at: usize, v: u16) {
+    pub(super) fn two_repaired(&mut self, number: usize, at: usize, v: u16) {
         write_two(self.page, number * BLOCK + at, v);
         repair(self.page, number);
     }
 
     /// Lays a four-byte number into a block, and its check anew.
-    fn four_repaired(&mut self, number: usize, at: usize, v: i32) {
+    pub(super) fn four_repaired(&mut self, number: usize, at: usize, v: i32) {
         write_four(self.page, number * BLOCK + at, v);
         repair(self.page, number);
+    }
+
+    /// Lays the check of a block anew.
+    pub(super) fn repair(&mut self, number: usize) {
+        repair(self.page, number);
+    }
+
+    /// Makes a block free, with its own number and its check.
+    pub(super) fn make_free(&mut self, number: usize) {
+        let start = number * BLOCK;
+        if let Some(block) = self.page.get_mut(start..start + BLOCK) {
+            block.fill(0);
+        }
+        self.two_repaired(number, 2, number as u16);
     }
 
     /// Changes one byte of a block to another value.
@@ -211,11 +225,7 @@ fn reference(v: &mut Victim<'_>) {
 fn palette_made_free(v: &mut Victim<'_>) {
     let at = v.block_of_kind(&[6]);
     if v.rng.once_in(2) {
-        let start = at * BLOCK;
-        if let Some(block) = v.page.get_mut(start..start + BLOCK) {
-            block.fill(0);
-        }
-        v.two_repaired(at, 2, at as u16);
+        v.make_free(at);
     } else {
         v.byte_repaired(at, 0, 0);
     }

@@ -1,5 +1,6 @@
 //! Accepted records and pages of random spaces.
 
+use super::programs::random_program;
 use super::Rng;
 use crate::block::{
     write_block, Body, Record, BLOCK, BODY, DEVICE_CMYK, DEVICE_GRAY, DEVICE_RGB, MOST_BLOCKS,
@@ -8,7 +9,7 @@ use crate::numbers::ONE;
 use crate::page::Family;
 
 /// What a block of the page to be is meant for.
-#[derive(Clone, Copy)]
+#[derive(Clone)]
 enum Plan {
     Free,
     CalGray,
@@ -24,13 +25,28 @@ enum Plan {
     Palette {
         used: usize,
     },
+    /// A Separation over a program that leaves m numbers.
+    Calculator {
+        m: usize,
+    },
+    /// A part of a program's text.
+    Text(Vec<u8>),
 }
 
-/// Lays out a page of this many blocks: which is meant for what, palettes straight after their Indexed block.
-fn plan_of(rng: &mut Rng, count: usize) -> Vec<Plan> {
+/// Lays out a page of this many blocks: which is meant for what, palettes and programs straight after their block.
+fn plan_of(rng: &mut Rng, count: usize, programs: bool) -> Vec<Plan> {
     let mut plan = Vec::new();
     while plan.len() < count {
         let left = count - plan.len() - 1;
+        if programs && rng.once_in(3) {
+            let m = rng.pick(&[1, 1, 3, 4], 1);
+            let text = random_program(rng, m);
+            if text.len().div_ceil(BODY) <= left {
+                plan.push(Plan::Calculator { m });
+                plan.extend(text.chunks(BODY).map(|part| Plan::Text(part.to_vec())));
+                continue;
+            }
+        }
         match rng.below(8) {
             0 => plan.push(Plan::Free),
             1 => plan.push(Plan::CalGray),
@@ -80,7 +96,7 @@ fn references(plan: &[Plan], m: Option<usize>, separations: bool) -> Vec<u16> {
         let count = match block {
             Plan::CalGray => 1,
             Plan::CalRgb | Plan::Lab => 3,
-            Plan::Separation if separations => 1,
+            Plan::Separation | Plan::Calculator { .. } if separations => 1,
             _ => continue,
         };
         if fits(count) {
@@ -158,7 +174,7 @@ fn random_name(rng: &mut Rng) -> Vec<u8> {
 /// A record for this place of the plan, with random numbers that keep every rule.
 fn random_record(rng: &mut Rng, plan: &[Plan], number: u16) -> Record {
     let mut bytes = [0; BODY];
-    let body = match plan.get(usize::from(number)).copied() {
+    let body = match plan.get(usize::from(number)).cloned() {
         None | Some(Plan::Free) => Body::Free,
         Some(Plan::CalGray) => Body::CalGray {
             white: random_white(rng),
@@ -202,6 +218,22 @@ fn random_record(rng: &mut Rng, plan: &[Plan], number: u16) -> Record {
                 c0: std::array::from_fn(|k| entry(k, rng)),
                 c1: std::array::from_fn(|k| entry(k, rng)),
             }
+        }
+        Some(Plan::Calculator { m }) => {
+            let alternates = references(plan, Some(m), false);
+            let name = random_name(rng);
+            bytes[..name.len()].copy_from_slice(&name);
+            Body::Separation {
+                alternate: rng.pick(&alternates, DEVICE_GRAY),
+                exponent: 0,
+                name_length: name.len() as u8,
+                c0: [0; 4],
+                c1: [0; 4],
+            }
+        }
+        Some(Plan::Text(text)) => {
+            bytes[..text.len()].copy_from_slice(&text);
+            Body::Program
         }
         Some(Plan::Palette { used }) => {
             for place in bytes.iter_mut().take(used) {
@@ -252,7 +284,12 @@ pub fn random_lone_record(rng: &mut Rng, number: u16) -> Record {
 
 /// An accepted page of exactly this many blocks (taken into 1..`MOST_BLOCKS`), of random spaces.
 pub fn random_page_of(rng: &mut Rng, count: usize) -> Vec<u8> {
-    let plan = plan_of(rng, count.clamp(1, MOST_BLOCKS));
+    page_of(rng, count, false)
+}
+
+/// The same, with or without spaces over programs.
+pub(super) fn page_of(rng: &mut Rng, count: usize, programs: bool) -> Vec<u8> {
+    let plan = plan_of(rng, count.clamp(1, MOST_BLOCKS), programs);
     let mut page = vec![0; BLOCK * plan.len()];
     for (number, block) in (0u16..).zip(page.chunks_exact_mut(BLOCK)) {
         let record = random_record(rng, &plan, number);
@@ -264,11 +301,16 @@ pub fn random_page_of(rng: &mut Rng, count: usize) -> Vec<u8> {
 
 /// An accepted page of 1 to `MOST_BLOCKS` blocks, of random spaces that nest as far as they may.
 pub fn random_page(rng: &mut Rng) -> Vec<u8> {
-    let count = match rng.below(4) {
+    let count = random_count(rng);
+    random_page_of(rng, count)
+}
+
+/// How many blocks a page has: few, many, or the most.
+pub(super) fn random_count(rng: &mut Rng) -> usize {
+    match rng.below(4) {
         0 => rng.below(3) + 1,
         1 => rng.below(MOST_BLOCKS) + 1,
         2 => rng.below(16) + 1,
         _ => rng.pick(&[8, MOST_BLOCKS - 1, MOST_BLOCKS], MOST_BLOCKS),
-    };
-    random_page_of(rng, count)
+    }
 }

@@ -7,7 +7,7 @@ use super::{random_component, Rng};
 /// in any order, any number where the paper sets no bound.
 pub fn random_recipe(rng: &mut Rng) -> Vec<i32> {
     let mut words = vec![rng.between(1, 4)];
-    // The longest step made here has 407 words and the longest closing one 13, so 1045 are not passed.
+    // The longest step made here has 407 words and the longest closing one 13, so 1084 are not passed.
     while words.len() < 500 && !rng.once_in(4) {
         match rng.below(3) {
             0 => {
@@ -32,7 +32,7 @@ pub fn random_recipe(rng: &mut Rng) -> Vec<i32> {
 }
 
 /// The words of a random closing step.
-fn random_closing(rng: &mut Rng) -> Vec<i32> {
+pub(super) fn random_closing(rng: &mut Rng) -> Vec<i32> {
     match rng.below(8) {
         0 => vec![4],
         1 => vec![5],
@@ -97,7 +97,7 @@ pub fn damage_recipe(rng: &mut Rng, words: &mut Vec<i32>) {
         2 => words.insert(at, word),
         3 => words.truncate(at),
         _ => {
-            let more = rng.pick(&[1, 2, 1045, 5000], 1);
+            let more = rng.pick(&[1, 2, 1084, 5000], 1);
             words.extend((0..more).map(|_| word));
         }
     }

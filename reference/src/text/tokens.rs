@@ -38,7 +38,7 @@ pub struct Tokens<'a> {
 }
 
 /// Table 1: NUL, HT, LF, FF, CR, SP.
-fn is_white(b: u8) -> bool {
+pub(crate) fn is_white(b: u8) -> bool {
     matches!(b, 0 | 9 | 10 | 12 | 13 | 32)
 }
 
@@ -48,7 +48,7 @@ fn is_delimiter(b: u8) -> bool {
 }
 
 /// "All other bytes, VT, 7F and 80 to FF among them, are regular."
-fn is_regular(b: u8) -> bool {
+pub(crate) fn is_regular(b: u8) -> bool {
     !is_white(b) && !is_delimiter(b)
 }
 

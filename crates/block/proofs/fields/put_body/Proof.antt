@@ -1,4 +1,4 @@
--- `put_body`: each kind by the call of its arm; a palette leaves no gap.
+-- `put_body`: each kind by the call of its arm; a palette or a program leaves no gap.
 use mathlib.Core.Path.{sym, _∙_}
 use mathlib.Core.List.{_++_}
 use Prim.Native.Nat.{_+_}
@@ -50,6 +50,12 @@ enum-told-2 c = search needs
 
 put-run-requires : tie.Need-put-run-requires
 put-run-requires c κs = search needs
+
+enum-told-3 : tie.Need-enum-told-3
+enum-told-3 c = search needs
+
+put-run-requires-2 : tie.Need-put-run-requires-2
+put-run-requires-2 c κs = search needs
 
 same-length : tie.Need-same-length
 same-length c = search needs
@@ -122,6 +128,17 @@ returns-7 c =
     let start = at-enum-told2 .before .before .before in
     at-put-run .put-run .ensures ∙ (λ i. puts (now (start .args .out)) 4 (body (sym (at-enum-told2 .enum-told2 .given .1) i) (now (start .args .s)) ++ rest (sym (at-enum-told2 .enum-told2 .given .1) i)))
 
+same-length-8 : tie.Need-same-length-8
+same-length-8 c = search needs
+
+returns-8 : tie.Need-returns-8
+unfolding puts
+returns-8 c =
+    let at-put-run2 = c .before .before in
+    let at-enum-told3 = at-put-run2 .before .before .before in
+    let start = at-enum-told3 .before .before .before in
+    at-put-run2 .put-run2 .ensures ∙ (λ i. puts (now (start .args .out)) 4 (body (sym (at-enum-told3 .enum-told3 .given .1) i) (now (start .args .s)) ++ rest (sym (at-enum-told3 .enum-told3 .given .1) i)))
+
 pub put-body-spec : {M : Type 1} → statement M
 put-body-spec =
     tie.close
@@ -140,6 +157,8 @@ put-body-spec =
     put-separation-requires
     enum-told-2
     put-run-requires
+    enum-told-3
+    put-run-requires-2
     same-length
     returns
     same-length-2
@@ -153,4 +172,6 @@ put-body-spec =
     same-length-6
     returns-6
     same-length-7
-    returns-7)
+    returns-7
+    same-length-8
+    returns-8)

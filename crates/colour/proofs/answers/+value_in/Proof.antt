@@ -5,7 +5,7 @@ use Rattle.fixed.proofs.Signs.{signed-within}
 use Rattle.cie.proofs.Closes.{closes}
 use Rattle.space.specs.Levels.{plainIn, rankIn}
 use Rattle.space.proofs.Ends.{whatever}
-use Rattle.colour.proofs.Replies.{value-plain, value-separation, value-indexed}
+use Rattle.colour.proofs.Replies.{value-plain, value-separation, value-calculated, value-indexed}
 use borrow.Author.Needs.{needs}
 use Prim.Native.Nat.{ℕ, _<_}
 use borrow.Fn.Kinds.{In}
@@ -14,6 +14,7 @@ use Rattle.colour.proofs.answers.value_in.Reads as value-in
 use Rattle.colour.proofs.answers.value_in.Kinds as value-in-kinds
 use Rattle.colour.proofs.answers.+value_in.Lts-value_in as value-in-lts
 use Rattle.cie.proofs.close.Reads as close-reads
+use Rattle.colour.proofs.values.calculate.Reads as calculate-reads
 use Rattle.colour.proofs.values.limit_all.Reads as limit-all-reads
 use Rattle.colour.proofs.values.pick_row.Reads as pick-row-reads
 use Rattle.colour.proofs.values.tint.Reads as tint-reads
@@ -38,7 +39,7 @@ value-in-below t =
 
 -- what each callee asks and tells, itself below t
 abbrev claims : ℕ → value-in-lts.Claims
-claims t = (limit-count-reads.Asked, limit-count-reads.Learnt, plain-lows-reads.Asked, plain-lows-reads.Learnt, plain-highs-reads.Asked, plain-highs-reads.Learnt, limit-all-reads.Asked, limit-all-reads.Learnt, close-reads.Asked, close-reads.Learnt, plain-at-reads.Asked, plain-at-reads.Learnt, count-reads.Asked, count-reads.Learnt, tint-reads.Asked, tint-reads.Learnt, value-in-below t, value-in.Post, tinted-at-reads.Asked, tinted-at-reads.Learnt, pick-row-reads.Asked, pick-row-reads.Learnt)
+claims t = (limit-count-reads.Asked, limit-count-reads.Learnt, plain-lows-reads.Asked, plain-lows-reads.Learnt, plain-highs-reads.Asked, plain-highs-reads.Learnt, limit-all-reads.Asked, limit-all-reads.Learnt, close-reads.Asked, close-reads.Learnt, plain-at-reads.Asked, plain-at-reads.Learnt, count-reads.Asked, count-reads.Learnt, tint-reads.Asked, tint-reads.Learnt, value-in-below t, value-in.Post, calculate-reads.Asked, calculate-reads.Learnt, tinted-at-reads.Asked, tinted-at-reads.Learnt, pick-row-reads.Asked, pick-row-reads.Learnt)
 
 value-in-enum-known-l : (t : ℕ) → value-in-lts.Need-enum-known-l (claims t) (value-in-at t) value-in.Post
 value-in-enum-known-l t c = search needs
@@ -92,17 +93,36 @@ value-in-value-in-requires t c κs =
 value-in-enum-known-l-3 : (t : ℕ) → value-in-lts.Need-enum-known-l-3 (claims t) (value-in-at t) value-in.Post
 value-in-enum-known-l-3 t c = search needs
 
+value-in-plain-at-requires-2 : (t : ℕ) → value-in-lts.Need-plain-at-requires-2 (claims t) (value-in-at t) value-in.Post
+value-in-plain-at-requires-2 t c κs = search needs
+
+value-in-count-requires-2 : (t : ℕ) → value-in-lts.Need-count-requires-2 (claims t) (value-in-at t) value-in.Post
+value-in-count-requires-2 t c κs = search needs
+
+value-in-calculate-requires : (t : ℕ) → value-in-lts.Need-calculate-requires (claims t) (value-in-at t) value-in.Post
+value-in-calculate-requires t c κs = search needs
+
+value-in-value-in-requires-2 : (t : ℕ) → value-in-lts.Need-value-in-requires-2 (claims t) (value-in-at t) value-in.Post
+value-in-value-in-requires-2 t c κs =
+    let after-plain-at = c .before .before in
+    let after-l3 = after-plain-at .before .before in
+    let entry = after-l3 .before .before .before in
+    (omega (arith, ap rankIn (after-l3 .l3 .given .1), entry .pre .0, after-plain-at .plain-at2 .ensures .1), tt)
+
+value-in-enum-known-l-4 : (t : ℕ) → value-in-lts.Need-enum-known-l-4 (claims t) (value-in-at t) value-in.Post
+value-in-enum-known-l-4 t c = search needs
+
 value-in-tinted-at-requires : (t : ℕ) → value-in-lts.Need-tinted-at-requires (claims t) (value-in-at t) value-in.Post
 value-in-tinted-at-requires t c κs = search needs
 
 value-in-pick-row-requires : (t : ℕ) → value-in-lts.Need-pick-row-requires (claims t) (value-in-at t) value-in.Post
 value-in-pick-row-requires t c κs = search needs
 
-value-in-value-in-requires-2 : (t : ℕ) → value-in-lts.Need-value-in-requires-2 (claims t) (value-in-at t) value-in.Post
-value-in-value-in-requires-2 t c κs =
-    let after-l3 = c .before .before .before in
-    let entry = after-l3 .before .before .before in
-    (omega (arith, ap rankIn (after-l3 .l3 .given .1), entry .pre .0, c .before .tinted-at .ensures .1), tt)
+value-in-value-in-requires-3 : (t : ℕ) → value-in-lts.Need-value-in-requires-3 (claims t) (value-in-at t) value-in.Post
+value-in-value-in-requires-3 t c κs =
+    let after-l4 = c .before .before .before in
+    let entry = after-l4 .before .before .before in
+    (omega (arith, ap rankIn (after-l4 .l4 .given .1), entry .pre .0, c .before .tinted-at .ensures .1), tt)
 
 value-in-returns : (t : ℕ) → value-in-lts.Need-returns (claims t) (value-in-at t) value-in.Post
 value-in-returns t c =
@@ -127,7 +147,14 @@ value-in-returns-2 : (t : ℕ) → value-in-lts.Need-returns-2 (claims t) (value
 value-in-returns-2 t c = c .value-in .ensures ∙ value-separation _ _ _ (c .before .before .before .before .before .l2 .given .1) (c .before .before .before .plain-at .ensures .0) (c .before .before .count .ensures .0 _) (c .before .tint .ensures)
 
 value-in-returns-3 : (t : ℕ) → value-in-lts.Need-returns-3 (claims t) (value-in-at t) value-in.Post
-value-in-returns-3 t c = c .value-in2 .ensures ∙ value-indexed _ _ _ _ _ (c .before .before .before .before .l3 .given .1) (c .before .before .tinted-at .ensures .0) (c .before .pick-row .ensures)
+value-in-returns-3 t c =
+    let after-count = c .before .before in
+    let after-plain-at = after-count .before in
+    let after-l3 = after-plain-at .before .before in
+    c .value-in2 .ensures ∙ value-calculated _ _ _ _ (after-l3 .l3 .given .1) (after-plain-at .plain-at2 .ensures .0) (after-count .count2 .ensures .0 _) (c .before .calculate .ensures)
+
+value-in-returns-4 : (t : ℕ) → value-in-lts.Need-returns-4 (claims t) (value-in-at t) value-in.Post
+value-in-returns-4 t c = c .value-in3 .ensures ∙ value-indexed _ _ _ _ _ (c .before .before .before .before .l4 .given .1) (c .before .before .tinted-at .ensures .0) (c .before .pick-row .ensures)
 
 pub +value-in-spec : {M : Type 1} → statement M
 +value-in-spec = close μ-value-in λ t. value-in-lts.spec (claims t)
@@ -149,9 +176,15 @@ pub +value-in-spec : {M : Type 1} → statement M
     (value-in-tint-requires t)
     (value-in-value-in-requires t)
     (value-in-enum-known-l-3 t)
+    (value-in-plain-at-requires-2 t)
+    (value-in-count-requires-2 t)
+    (value-in-calculate-requires t)
+    (value-in-value-in-requires-2 t)
+    (value-in-enum-known-l-4 t)
     (value-in-tinted-at-requires t)
     (value-in-pick-row-requires t)
-    (value-in-value-in-requires-2 t)
+    (value-in-value-in-requires-3 t)
     (value-in-returns t)
     (value-in-returns-2 t)
     (value-in-returns-3 t)
+    (value-in-returns-4 t)

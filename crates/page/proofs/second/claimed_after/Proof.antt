@@ -1,107 +1,39 @@
--- `claimed_after`: an Indexed block claims its run, and any other block takes one of those claimed.
-use mathlib.Core.Path.{ap, _∙_}
-use Rattle.page.specs.Validation.{runLength, claimedAfter}
-use Rattle.page.proofs.Permits.{size-within}
+-- `claimed_after`: a Separation with a program claims its run, an Indexed block its own, and any other block takes one of those claimed.
+use Rattle.fixed.proofs.Decide.{is-yes, is-no}
+use Rattle.page.specs.Validation.{claimedAfter}
 use borrow.Author.Needs.{needs}
 use Rattle.page.proofs.second.claimed_after.Statement.{statement}
 use Rattle.page.proofs.second.claimed_after.Tie as tie
 
-enum-told : tie.Need-enum-told
-enum-told c = search needs
+is-programmed-requires : tie.Need-is-programmed-requires
+is-programmed-requires c κs = search needs
 
-less-requires : tie.Need-less-requires
-less-requires c κs = search needs
+cast-program-run : tie.Need-cast-program-run
+cast-program-run c = search needs
 
-enum-told-2 : tie.Need-enum-told-2
-enum-told-2 c = search needs
-
-less-requires-2 : tie.Need-less-requires-2
-less-requires-2 c κs = search needs
-
-enum-told-3 : tie.Need-enum-told-3
-enum-told-3 c = search needs
-
-less-requires-3 : tie.Need-less-requires-3
-less-requires-3 c κs = search needs
-
-enum-told-4 : tie.Need-enum-told-4
-enum-told-4 c = search needs
-
-less-requires-4 : tie.Need-less-requires-4
-less-requires-4 c κs = search needs
-
-enum-known-y : tie.Need-enum-known-y
-enum-known-y c = search needs
-
-palette-size-requires : tie.Need-palette-size-requires
-palette-size-requires c κs = search needs
-
-run-length-requires : tie.Need-run-length-requires
-run-length-requires c κs = search needs
-
-enum-told-5 : tie.Need-enum-told-5
-enum-told-5 c = search needs
-
-less-requires-5 : tie.Need-less-requires-5
-less-requires-5 c κs = search needs
-
-enum-told-6 : tie.Need-enum-told-6
-enum-told-6 c = search needs
-
-less-requires-6 : tie.Need-less-requires-6
-less-requires-6 c κs = search needs
+program-run-requires : tie.Need-program-run-requires
+program-run-requires c κs = search needs
 
 returns : tie.Need-returns
 unfolding claimedAfter
-returns c = λ page e. rw (c .before .enum-told .given .1) (c .less .ensures)
+returns c = is-yes _ _ _ _ (c .before .before .is-programmed .ensures) (c .before .if1 .taken) (c .program-run .ensures .0)
+
+palette-claimed-requires : tie.Need-palette-claimed-requires
+palette-claimed-requires c κs = search needs
 
 returns-2 : tie.Need-returns-2
 unfolding claimedAfter
-returns-2 c = λ page e. rw (c .before .enum-told2 .given .1) (c .less2 .ensures)
-
-returns-3 : tie.Need-returns-3
-unfolding claimedAfter
-returns-3 c = λ page e. rw (c .before .enum-told3 .given .1) (c .less3 .ensures)
-
-returns-4 : tie.Need-returns-4
-unfolding claimedAfter
-returns-4 c = λ page e. rw (c .before .enum-told4 .given .1) (c .less4 .ensures)
-
-returns-5 : tie.Need-returns-5
-unfolding claimedAfter
-returns-5 c = λ page e. rw (c .before .before .before .y .given .1) (c .run-length .ensures ∙ ap runLength (size-within page _ _ (c .before .before .before .y .given .1) e (c .before .palette-size .ensures .0)))
-
-returns-6 : tie.Need-returns-6
-unfolding claimedAfter
-returns-6 c = λ page e. rw (c .before .enum-told5 .given .1) (c .less5 .ensures)
-
-returns-7 : tie.Need-returns-7
-unfolding claimedAfter
-returns-7 c = λ page e. rw (c .before .enum-told6 .given .1) (c .less6 .ensures)
+returns-2 c =
+    let entry = c .before .before .before .before in
+    is-no _ _ _ _ (c .before .before .is-programmed .ensures) (c .before .if1 .left) (c .palette-claimed .ensures _ (entry .pre .2))
 
 pub claimed-after-spec : {M : Type 1} → statement M
 claimed-after-spec =
     tie.close
     (tie.spec
-    enum-told
-    less-requires
-    enum-told-2
-    less-requires-2
-    enum-told-3
-    less-requires-3
-    enum-told-4
-    less-requires-4
-    enum-known-y
-    palette-size-requires
-    run-length-requires
-    enum-told-5
-    less-requires-5
-    enum-told-6
-    less-requires-6
+    is-programmed-requires
+    cast-program-run
+    program-run-requires
     returns
-    returns-2
-    returns-3
-    returns-4
-    returns-5
-    returns-6
-    returns-7)
+    palette-claimed-requires
+    returns-2)

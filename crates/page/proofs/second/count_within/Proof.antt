@@ -39,6 +39,9 @@ count-requires-2 c κs = search needs
 enum-told-5 : tie.Need-enum-told-5
 enum-told-5 c = search needs
 
+enum-told-6 : tie.Need-enum-told-6
+enum-told-6 c = search needs
+
 returns : tie.Need-returns
 unfolding within
 returns c = (rw (c .enum-told .given .1), search needs)
@@ -67,6 +70,10 @@ returns-7 : tie.Need-returns-7
 unfolding within
 returns-7 c = (rw (c .enum-told5 .given .1), search needs)
 
+returns-8 : tie.Need-returns-8
+unfolding within
+returns-8 c = (rw (c .enum-told6 .given .1), search needs)
+
 pub count-within-spec : {M : Type 1} → statement M
 count-within-spec =
     tie.close
@@ -81,11 +88,11 @@ count-within-spec =
     enum-known-y-2
     plain-at-requires
     count-requires-2
-    enum-told-5
+    enum-told-5 enum-told-6
     returns
     returns-2
     returns-3
     returns-4
     returns-5
     returns-6
-    returns-7)
+    returns-7 returns-8)

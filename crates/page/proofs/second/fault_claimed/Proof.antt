@@ -1,7 +1,7 @@
--- `fault_claimed`: 4 to 7 are looked at in their order.
+-- `fault_claimed`: 4, 5, 6, those of a program and 7 are looked at in their order.
 use mathlib.Core.Path.{refl}
 use borrow.Author.Tests.{not-true, not-false}
-use Rattle.fixed.proofs.Decide.{is-yes, is-no}
+use Rattle.fixed.proofs.Decide.{is-yes, is-no, eq-yes, eq-no}
 use Rattle.page.specs.Validation.{faultClaimed}
 use borrow.Author.Needs.{needs}
 use Rattle.page.proofs.second.fault_claimed.Statement.{statement}
@@ -42,25 +42,30 @@ returns-3 c =
     (is-yes _ _ _ _ (after-is-supported .is-supported .ensures) (not-false _ (c .before .if2 .left))
     (is-no _ _ _ _ (after-permits .permits .ensures _ (entry .pre .2)) (not-true _ (c .if3 .taken)) refl))
 
+program-fault-requires : tie.Need-program-fault-requires
+program-fault-requires c κs = search needs
+
 returns-4 : tie.Need-returns-4
 unfolding faultClaimed
 returns-4 c =
-    let after-if2 = c .before .before in
+    let after-if3 = c .before .before in
+    let after-if2 = after-if3 .before in
     let after-if1 = after-if2 .before in
-    let after-is-well-filled = after-if1 .before in
-    let after-permits = after-is-well-filled .before in
+    let after-permits = after-if1 .before .before in
     let after-is-supported = after-permits .before in
     let after-is-lawful = after-is-supported .before in
     let entry = after-is-lawful .before .before in
     is-yes _ _ _ _ (after-is-lawful .is-lawful .ensures) (not-false _ (after-if1 .if1 .left))
     (is-yes _ _ _ _ (after-is-supported .is-supported .ensures) (not-false _ (after-if2 .if2 .left))
-    (is-yes _ _ _ _ (after-permits .permits .ensures _ (entry .pre .2)) (not-false _ (c .before .if3 .left))
-    (is-no _ _ _ _ (after-is-well-filled .is-well-filled .ensures) (not-true _ (c .if4 .taken)) refl)))
+    (is-yes _ _ _ _ (after-permits .permits .ensures _ (entry .pre .2)) (not-false _ (after-if3 .if3 .left))
+    (eq-no _ 0 _ _ _ (c .before .program-fault .ensures) (c .if4 .taken) (c .before .program-fault .ensures))))
 
 returns-5 : tie.Need-returns-5
 unfolding faultClaimed
 returns-5 c =
-    let after-if2 = c .before .before in
+    let after-program-fault = c .before .before in
+    let after-if3 = after-program-fault .before in
+    let after-if2 = after-if3 .before in
     let after-if1 = after-if2 .before in
     let after-is-well-filled = after-if1 .before in
     let after-permits = after-is-well-filled .before in
@@ -69,9 +74,27 @@ returns-5 c =
     let entry = after-is-lawful .before .before in
     is-yes _ _ _ _ (after-is-lawful .is-lawful .ensures) (not-false _ (after-if1 .if1 .left))
     (is-yes _ _ _ _ (after-is-supported .is-supported .ensures) (not-false _ (after-if2 .if2 .left))
-    (is-yes _ _ _ _ (after-permits .permits .ensures _ (entry .pre .2)) (not-false _ (c .before .if3 .left))
-    (is-yes _ _ _ _ (after-is-well-filled .is-well-filled .ensures) (not-false _ (c .if4 .left))
-    (refl))))
+    (is-yes _ _ _ _ (after-permits .permits .ensures _ (entry .pre .2)) (not-false _ (after-if3 .if3 .left))
+    (eq-yes _ 0 _ _ _ (after-program-fault .program-fault .ensures) (c .before .if4 .left)
+    (is-no _ _ _ _ (after-is-well-filled .is-well-filled .ensures) (not-true _ (c .if5 .taken)) refl))))
+
+returns-6 : tie.Need-returns-6
+unfolding faultClaimed
+returns-6 c =
+    let after-program-fault = c .before .before in
+    let after-if3 = after-program-fault .before in
+    let after-if2 = after-if3 .before in
+    let after-if1 = after-if2 .before in
+    let after-is-well-filled = after-if1 .before in
+    let after-permits = after-is-well-filled .before in
+    let after-is-supported = after-permits .before in
+    let after-is-lawful = after-is-supported .before in
+    let entry = after-is-lawful .before .before in
+    is-yes _ _ _ _ (after-is-lawful .is-lawful .ensures) (not-false _ (after-if1 .if1 .left))
+    (is-yes _ _ _ _ (after-is-supported .is-supported .ensures) (not-false _ (after-if2 .if2 .left))
+    (is-yes _ _ _ _ (after-permits .permits .ensures _ (entry .pre .2)) (not-false _ (after-if3 .if3 .left))
+    (eq-yes _ 0 _ _ _ (after-program-fault .program-fault .ensures) (c .before .if4 .left)
+    (is-yes _ _ _ _ (after-is-well-filled .is-well-filled .ensures) (not-false _ (c .if5 .left)) refl))))
 
 pub fault-claimed-spec : {M : Type 1} → statement M
 fault-claimed-spec =
@@ -84,5 +107,7 @@ fault-claimed-spec =
     returns
     returns-2
     returns-3
+    program-fault-requires
     returns-4
-    returns-5)
+    returns-5
+    returns-6)

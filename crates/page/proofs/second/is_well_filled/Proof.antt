@@ -1,6 +1,6 @@
--- `is_well_filled`: an Indexed block has a run after it, a Separation zeros past its counts, and a palette block is claimed.
+-- `is_well_filled`: an Indexed block has a run after it, a Separation zeros past its counts, and a block of a palette or a program is claimed.
 use mathlib.Core.Path.{ap, _∙_}
-use Rattle.page.specs.Validation.{within, runFilled, unusedZero, wellFilled}
+use Rattle.page.specs.Validation.{within, runFilled, usedEntries, unusedZero, wellFilled}
 use Rattle.page.proofs.Permits.{size-within}
 use borrow.Author.Needs.{needs}
 use Rattle.page.proofs.second.is_well_filled.Statement.{statement}
@@ -30,11 +30,17 @@ run-filled-requires c κs = search needs
 enum-known-y-2 : tie.Need-enum-known-y-2
 enum-known-y-2 c = search needs
 
+used-entries-requires : tie.Need-used-entries-requires
+used-entries-requires c κs = search needs
+
 unused-zero-requires : tie.Need-unused-zero-requires
 unused-zero-requires c κs = search needs
 
 enum-told-5 : tie.Need-enum-told-5
 enum-told-5 c = search needs
+
+enum-told-6 : tie.Need-enum-told-6
+enum-told-6 c = search needs
 
 returns : tie.Need-returns
 unfolding wellFilled
@@ -61,11 +67,18 @@ returns-5 c =
 
 returns-6 : tie.Need-returns-6
 unfolding wellFilled
-returns-6 c = rw (c .before .before .y2 .given .1) (c .unused-zero .ensures ∙ ap (unusedZero _) (c .before .before .before .before .before .pre .2 ∙ ap (within _) (c .before .before .y2 .given .1)))
+returns-6 c =
+    let after-y = c .before .before .before in
+    let entry = after-y .before .before .before in
+    rw (after-y .y2 .given .1) (c .unused-zero .ensures ∙ ap (unusedZero _) (c .before .used-entries .ensures ∙ ap (usedEntries _) (entry .pre .2 ∙ ap (within _) (after-y .y2 .given .1))))
 
 returns-7 : tie.Need-returns-7
 unfolding wellFilled
 returns-7 c = rw (c .enum-told5 .given .1)
+
+returns-8 : tie.Need-returns-8
+unfolding wellFilled
+returns-8 c = rw (c .enum-told6 .given .1)
 
 pub is-well-filled-spec : {M : Type 1} → statement M
 is-well-filled-spec =
@@ -79,12 +92,13 @@ is-well-filled-spec =
     palette-size-requires
     run-filled-requires
     enum-known-y-2
+    used-entries-requires
     unused-zero-requires
-    enum-told-5
+    enum-told-5 enum-told-6
     returns
     returns-2
     returns-3
     returns-4
     returns-5
     returns-6
-    returns-7)
+    returns-7 returns-8)

@@ -1,4 +1,4 @@
--- The second pass: blocks below i have no fault, and `claimed` is what the last Indexed block before i still claims.
+-- The second pass: blocks below i have no fault, and `claimed` is what the last Indexed block, or Separation with a program, before i still claims.
 use mathlib.Core.Path.{_≡_, refl, sym, _∙_, ap}
 use mathlib.Core.List.{List}
 use native.Mathlib.Numerals.{add-one}
@@ -23,9 +23,9 @@ module _ (page : List ℕ) (i claimed r : ℕ) {y : Body} (g : y ≡ bodyAt (blo
   unfolding faultTwo
   fault-is e = e ∙ (λ j. faultClaimed page i (q j) (g j))
 
-  claimed-next : r ≡ claimedAfter page y claimed → r ≡ claimedAt page (i + 1)
+  claimed-next : r ≡ claimedAfter page i y claimed → r ≡ claimedAt page (i + 1)
   unfolding claimedAt
-  claimed-next e = e ∙ (λ j. claimedAfter page (g j) (q j)) ∙ sym (ap (claimedAt page) (add-one i))
+  claimed-next e = e ∙ (λ j. claimedAfter page i (g j) (q j)) ∙ sym (ap (claimedAt page) (add-one i))
 
 abbrev Inv-loop : tie.InvT-loop
 Inv-loop page n i₀ claimed₀ i claimed = At page n i claimed
@@ -67,7 +67,7 @@ loop-again c =
     let turn = after-loop-test .before in
     record {
       clean = clean-turn _ _ _ _ _ _ (turn .loop .inv .clean) (after-loop-test .loop-test .taken) (fault-is _ _ _ _ (after-body-at .body-at .ensures) (turn .loop .inv .claimed-is) (after-fault-claimed .fault-claimed .ensures)) (c .before .if1 .left);
-      claimed-is = claimed-next _ _ _ _ (after-body-at .body-at .ensures) (turn .loop .inv .claimed-is) (c .claimed-after .ensures _ (after-count-within .count-within .ensures .0));
+      claimed-is = claimed-next _ _ _ _ (after-body-at .body-at .ensures) (turn .loop .inv .claimed-is) (c .claimed-after .ensures);
     }
 
 returns-2 : tie.Need-returns-2 Inv-loop μ-loop

@@ -46,6 +46,9 @@ separation-fits-requires c κs = search needs
 enum-told-2 : tie.Need-enum-told-2
 enum-told-2 c = search needs
 
+enum-told-3 : tie.Need-enum-told-3
+enum-told-3 c = search needs
+
 returns : tie.Need-returns
 returns c = rw (c .enum-told .given .1) tt
 
@@ -67,6 +70,9 @@ returns-6 c = subst (λ (y : Body). FieldsFit (body y [])) (sym (c .before .befo
 returns-7 : tie.Need-returns-7
 returns-7 c = rw (c .enum-told2 .given .1) (tt, tt)
 
+returns-8 : tie.Need-returns-8
+returns-8 c = rw (c .enum-told3 .given .1) (tt, tt)
+
 pub body-fits-spec : {M : Type 1} → statement M
 body-fits-spec =
     tie.close
@@ -82,11 +88,11 @@ body-fits-spec =
     indexed-fits-requires
     enum-known-y-5
     separation-fits-requires
-    enum-told-2
+    enum-told-2 enum-told-3
     returns
     returns-2
     returns-3
     returns-4
     returns-5
     returns-6
-    returns-7)
+    returns-7 returns-8)

@@ -51,11 +51,16 @@ returns-6 c = rw (sym (c .before .byte-in .ensures .0) ∙ c .match .keys6)
 
 returns-7 : tie.Need-returns-7
 unfolding bodyBy
-returns-7 c = let r = c .match .rest in
+returns-7 c = rw (sym (c .before .byte-in .ensures .0) ∙ c .match .keys7)
+
+returns-8 : tie.Need-returns-8
+unfolding bodyBy
+returns-8 c = let r = c .match .rest in
     let e = c .before .byte-in .ensures .0 in
-    eq-no _ 1 _ _ _ e (r .0 .0 .0 .0 .0 .1)
-    (eq-no _ 2 _ _ _ e (r .0 .0 .0 .0 .1)
-    (eq-no _ 3 _ _ _ e (r .0 .0 .0 .1) (eq-no _ 4 _ _ _ e (r .0 .0 .1) (eq-no _ 5 _ _ _ e (r .0 .1) (eq-no _ 6 _ _ _ e (r .1) refl)))))
+    eq-no _ 1 _ _ _ e (r .0 .0 .0 .0 .0 .0 .1)
+    (eq-no _ 2 _ _ _ e (r .0 .0 .0 .0 .0 .1)
+    (eq-no _ 3 _ _ _ e (r .0 .0 .0 .0 .1)
+    (eq-no _ 4 _ _ _ e (r .0 .0 .0 .1) (eq-no _ 5 _ _ _ e (r .0 .0 .1) (eq-no _ 6 _ _ _ e (r .0 .1) (eq-no _ 7 _ _ _ e (r .1) refl))))))
 
 pub body-in-spec : {M : Type 1} → statement M
 body-in-spec =
@@ -73,4 +78,5 @@ body-in-spec =
     returns-4
     returns-5
     returns-6
-    returns-7)
+    returns-7
+    returns-8)

@@ -1,4 +1,4 @@
--- `bytes_at`: a name, a palette, or zeros, by the kind.
+-- `bytes_at`: a name, a part of a palette or of a program's text, or zeros, by the kind.
 use borrow.Author.Tests.{ne-eqb}
 use Rattle.record.specs.Reading.{bytesBy}
 use borrow.Author.Needs.{needs}
@@ -19,9 +19,16 @@ returns-2 : tie.Need-returns-2
 unfolding bytesBy
 returns-2 c = rw (c .before .if2 .taken) (c .run-at2 .ensures)
 
+run-at-requires-3 : tie.Need-run-at-requires-3
+run-at-requires-3 c κs = search needs
+
 returns-3 : tie.Need-returns-3
 unfolding bytesBy
-returns-3 c = simp (ne-eqb _ _ (c .before .if1 .left), ne-eqb _ _ (c .if2 .left))
+returns-3 c = rw (c .before .if3 .taken) (c .run-at3 .ensures)
+
+returns-4 : tie.Need-returns-4
+unfolding bytesBy
+returns-4 c = simp (ne-eqb _ _ (c .before .before .if1 .left), ne-eqb _ _ (c .before .if2 .left), ne-eqb _ _ (c .if3 .left))
 
 pub bytes-at-spec : {M : Type 1} → statement M
-bytes-at-spec = tie.close (tie.spec run-at-requires returns run-at-requires-2 returns-2 returns-3)
+bytes-at-spec = tie.close (tie.spec run-at-requires returns run-at-requires-2 returns-2 run-at-requires-3 returns-3 returns-4)

@@ -34,6 +34,9 @@ enum-told-2 c = search needs
 enum-told-3 : tie.Need-enum-told-3
 enum-told-3 c = search needs
 
+enum-told-4 : tie.Need-enum-told-4
+enum-told-4 c = search needs
+
 returns : tie.Need-returns
 unfolding lawful
 returns c = rw (c .enum-told .given .1)
@@ -62,6 +65,10 @@ returns-7 : tie.Need-returns-7
 unfolding lawful
 returns-7 c = rw (c .enum-told3 .given .1)
 
+returns-8 : tie.Need-returns-8
+unfolding lawful
+returns-8 c = rw (c .enum-told4 .given .1)
+
 pub is-lawful-spec : {M : Type 1} → statement M
 is-lawful-spec =
     tie.close
@@ -75,11 +82,11 @@ is-lawful-spec =
     lab-lawful-requires
     enum-known-y-4
     enum-told-2
-    enum-told-3
+    enum-told-3 enum-told-4
     returns
     returns-2
     returns-3
     returns-4
     returns-5
     returns-6
-    returns-7)
+    returns-7 returns-8)

@@ -37,6 +37,9 @@ is-device-requires-2 c κs = search needs
 enum-told-5 : tie.Need-enum-told-5
 enum-told-5 c = search needs
 
+enum-told-6 : tie.Need-enum-told-6
+enum-told-6 c = search needs
+
 returns : tie.Need-returns
 unfolding refers
 returns c = rw (c .enum-told .given .1)
@@ -65,6 +68,10 @@ returns-7 : tie.Need-returns-7
 unfolding refers
 returns-7 c = rw (c .enum-told5 .given .1)
 
+returns-8 : tie.Need-returns-8
+unfolding refers
+returns-8 c = rw (c .enum-told6 .given .1)
+
 pub is-referring-spec : {M : Type 1} → statement M
 is-referring-spec =
     tie.close
@@ -79,11 +86,11 @@ is-referring-spec =
     enum-known-y-2
     cast-is-device-2
     is-device-requires-2
-    enum-told-5
+    enum-told-5 enum-told-6
     returns
     returns-2
     returns-3
     returns-4
     returns-5
     returns-6
-    returns-7)
+    returns-7 returns-8)

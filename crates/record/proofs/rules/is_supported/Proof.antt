@@ -1,4 +1,4 @@
--- `is_supported`: a CalGray has one gamma, a CalRGB three, a Separation an exponent.
+-- `is_supported`: a CalGray has one gamma, a CalRGB three, a Separation an exponent, or 0 for a program.
 use mathlib.Core.Path.{ap, _∙_}
 use Rattle.record.specs.Rules.{supported}
 use Rattle.fixed.specs.Numbers.{gammaSupported}
@@ -40,6 +40,9 @@ is-exponent-requires c κs = search needs
 enum-told-4 : tie.Need-enum-told-4
 enum-told-4 c = search needs
 
+enum-told-5 : tie.Need-enum-told-5
+enum-told-5 c = search needs
+
 returns : tie.Need-returns
 unfolding supported
 returns c = rw (c .enum-told .given .1)
@@ -62,11 +65,15 @@ returns-5 c = rw (c .enum-told3 .given .1)
 
 returns-6 : tie.Need-returns-6
 unfolding supported
-returns-6 c = rw (c .before .before .before .y3 .given .1) (c .is-exponent .ensures)
+returns-6 c = rw (c .before .before .before .before .y3 .given .1, c .is-exponent .ensures)
 
 returns-7 : tie.Need-returns-7
 unfolding supported
 returns-7 c = rw (c .enum-told4 .given .1)
+
+returns-8 : tie.Need-returns-8
+unfolding supported
+returns-8 c = rw (c .enum-told5 .given .1)
 
 pub is-supported-spec : {M : Type 1} → statement M
 is-supported-spec =
@@ -82,11 +89,11 @@ is-supported-spec =
     enum-known-y-3
     cast-is-exponent
     is-exponent-requires
-    enum-told-4
+    enum-told-4 enum-told-5
     returns
     returns-2
     returns-3
     returns-4
     returns-5
     returns-6
-    returns-7)
+    returns-7 returns-8)

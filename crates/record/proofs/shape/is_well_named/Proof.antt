@@ -31,6 +31,9 @@ name-fits-requires c κs = search needs
 enum-told-6 : tie.Need-enum-told-6
 enum-told-6 c = search needs
 
+enum-told-7 : tie.Need-enum-told-7
+enum-told-7 c = search needs
+
 returns : tie.Need-returns
 unfolding wellNamed
 returns c = rw (c .enum-told .given .1)
@@ -59,6 +62,10 @@ returns-7 : tie.Need-returns-7
 unfolding wellNamed
 returns-7 c = rw (c .enum-told6 .given .1)
 
+returns-8 : tie.Need-returns-8
+unfolding wellNamed
+returns-8 c = rw (c .enum-told7 .given .1)
+
 pub is-well-named-spec : {M : Type 1} → statement M
 is-well-named-spec =
     tie.close
@@ -71,11 +78,11 @@ is-well-named-spec =
     enum-known-y
     cast-name-fits
     name-fits-requires
-    enum-told-6
+    enum-told-6 enum-told-7
     returns
     returns-2
     returns-3
     returns-4
     returns-5
     returns-6
-    returns-7)
+    returns-7 returns-8)

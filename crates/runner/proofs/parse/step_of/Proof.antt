@@ -45,6 +45,9 @@ close-read-requires-5 c κs = search needs
 close-read-requires-6 : tie.Need-close-read-requires-6
 close-read-requires-6 c κs = search needs
 
+program-read-requires : tie.Need-program-read-requires
+program-read-requires c κs = search needs
+
 returns : tie.Need-returns
 unfolding stepBy
 returns c = c .limit-read .ensures ∙ simp (← (c .before .before .small-at .ensures), c .before .match .keys1)
@@ -91,9 +94,13 @@ returns-11 c = c .close-read6 .ensures ∙ simp (← (c .before .before .small-a
 
 returns-12 : tie.Need-returns-12
 unfolding stepBy
-returns-12 c =
+returns-12 c = c .program-read .ensures ∙ simp (← (c .before .before .small-at .ensures), c .before .match .keys12)
+
+returns-13 : tie.Need-returns-13
+unfolding stepBy
+returns-13 c =
     let r = c .match .rest in
-    simp (← (c .before .small-at .ensures), ne-eqb _ _ (r .1), ne-eqb _ _ (r .0 .1), ne-eqb _ _ (r .0 .0 .1), ne-eqb _ _ (r .0 .0 .0 .1), ne-eqb _ _ (r .0 .0 .0 .0 .1), ne-eqb _ _ (r .0 .0 .0 .0 .0 .1), ne-eqb _ _ (r .0 .0 .0 .0 .0 .0 .1), ne-eqb _ _ (r .0 .0 .0 .0 .0 .0 .0 .1), ne-eqb _ _ (r .0 .0 .0 .0 .0 .0 .0 .0 .1), ne-eqb _ _ (r .0 .0 .0 .0 .0 .0 .0 .0 .0 .1), ne-eqb _ _ (r .0 .0 .0 .0 .0 .0 .0 .0 .0 .0 .1))
+    simp (← (c .before .small-at .ensures), ne-eqb _ _ (r .1), ne-eqb _ _ (r .0 .1), ne-eqb _ _ (r .0 .0 .1), ne-eqb _ _ (r .0 .0 .0 .1), ne-eqb _ _ (r .0 .0 .0 .0 .1), ne-eqb _ _ (r .0 .0 .0 .0 .0 .1), ne-eqb _ _ (r .0 .0 .0 .0 .0 .0 .1), ne-eqb _ _ (r .0 .0 .0 .0 .0 .0 .0 .1), ne-eqb _ _ (r .0 .0 .0 .0 .0 .0 .0 .0 .1), ne-eqb _ _ (r .0 .0 .0 .0 .0 .0 .0 .0 .0 .1), ne-eqb _ _ (r .0 .0 .0 .0 .0 .0 .0 .0 .0 .0 .1), ne-eqb _ _ (r .0 .0 .0 .0 .0 .0 .0 .0 .0 .0 .0 .1))
 
 pub step-of-spec : {M : Type 1} → statement M
 step-of-spec =
@@ -112,6 +119,7 @@ step-of-spec =
     close-read-requires-4
     close-read-requires-5
     close-read-requires-6
+    program-read-requires
     returns
     returns-2
     returns-3
@@ -123,4 +131,5 @@ step-of-spec =
     returns-9
     returns-10
     returns-11
-    returns-12)
+    returns-12
+    returns-13)

@@ -41,7 +41,7 @@ known c =
 goes-on : (c : tie.At-match2-keys2 Inv-loop μ-loop) (k : Closing) → c .before .before .s .given .0 .0 ≡ Close k → ⊥
 goes-on c k e =
     let t = ap (λ (x : Step). Declared.tagOf (Declared.declared StepEnum.enum) x) e in
-    ⊎-elim (λ z. omega (arith, t)) (⊎-elim (λ z. omega (arith, t)) (λ z. omega (arith, t))) (c .match2 .keys2)
+    ⊎-elim (λ z. omega (arith, t)) (⊎-elim (λ z. omega (arith, t)) (⊎-elim (λ z. omega (arith, t)) (λ z. omega (arith, t)))) (c .match2 .keys2)
 
 loop-holds : tie.Need-loop-holds Inv-loop μ-loop
 loop-holds c = (search needs, refl)

@@ -26,6 +26,12 @@ enum-known-s-3 c = search needs
 tint-step-requires : tie.Need-tint-step-requires
 tint-step-requires c κs = let r = subst Bounded (c .before .s3 .given .1) (c .before .before .before .pre) in r .3
 
+enum-known-s-4 : tie.Need-enum-known-s-4
+enum-known-s-4 c = search needs
+
+program-step-requires : tie.Need-program-step-requires
+program-step-requires c κs = search needs
+
 enum-told : tie.Need-enum-told
 enum-told c = search needs
 
@@ -44,7 +50,10 @@ returns-3 : tie.Need-returns-3
 returns-3 c = c .tint-step .ensures ∙ ap (stepped (c .before .before .before .before .args .l .now) (c .before .before .before .before .args .c)) (sym (c .before .before .s3 .given .1))
 
 returns-4 : tie.Need-returns-4
-returns-4 c = search needs
+returns-4 c = c .program-step .ensures ∙ ap (stepped (c .before .before .before .before .args .l .now) (c .before .before .before .before .args .c)) (sym (c .before .before .s4 .given .1))
+
+returns-5 : tie.Need-returns-5
+returns-5 c = search needs
 
 pub act-spec : {M : Type 1} → statement M
 act-spec =
@@ -56,8 +65,11 @@ act-spec =
     row-step-requires
     enum-known-s-3
     tint-step-requires
+    enum-known-s-4
+    program-step-requires
     enum-told
     returns
     returns-2
     returns-3
-    returns-4)
+    returns-4
+    returns-5)

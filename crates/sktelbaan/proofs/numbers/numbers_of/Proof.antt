@@ -45,6 +45,12 @@ enum-told-2 c = search needs
 bare-numbers-requires-2 : tie.Need-bare-numbers-requires-2
 bare-numbers-requires-2 c κs = search needs
 
+enum-told-3 : tie.Need-enum-told-3
+enum-told-3 c = search needs
+
+bare-numbers-requires-3 : tie.Need-bare-numbers-requires-3
+bare-numbers-requires-3 c κs = search needs
+
 returns : tie.Need-returns
 returns c = rw (c .before .enum-told .given .1) (c .bare-numbers .ensures)
 
@@ -66,6 +72,9 @@ returns-6 c = rw (c .before .before .y5 .given .1) (c .ink-numbers .ensures)
 returns-7 : tie.Need-returns-7
 returns-7 c = rw (c .before .enum-told2 .given .1) (c .bare-numbers2 .ensures)
 
+returns-8 : tie.Need-returns-8
+returns-8 c = rw (c .before .enum-told3 .given .1) (c .bare-numbers3 .ensures)
+
 pub numbers-of-spec : {M : Type 1} → statement M
 numbers-of-spec =
     tie.close
@@ -84,10 +93,13 @@ numbers-of-spec =
     ink-numbers-requires
     enum-told-2
     bare-numbers-requires-2
+    enum-told-3
+    bare-numbers-requires-3
     returns
     returns-2
     returns-3
     returns-4
     returns-5
     returns-6
-    returns-7)
+    returns-7
+    returns-8)

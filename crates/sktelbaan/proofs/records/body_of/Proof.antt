@@ -48,10 +48,15 @@ returns-6 c = rw (c .match .keys6)
 
 returns-7 : tie.Need-returns-7
 unfolding bodyOf
-returns-7 c = let r = c .match .rest in
-    eq-no _ 1 _ _ _ refl (r .0 .0 .0 .0 .0 .1)
-    (eq-no _ 2 _ _ _ refl (r .0 .0 .0 .0 .1)
-    (eq-no _ 3 _ _ _ refl (r .0 .0 .0 .1) (eq-no _ 4 _ _ _ refl (r .0 .0 .1) (eq-no _ 5 _ _ _ refl (r .0 .1) (eq-no _ 6 _ _ _ refl (r .1) refl)))))
+returns-7 c = rw (c .match .keys7)
+
+returns-8 : tie.Need-returns-8
+unfolding bodyOf
+returns-8 c = let r = c .match .rest in
+    eq-no _ 1 _ _ _ refl (r .0 .0 .0 .0 .0 .0 .1)
+    (eq-no _ 2 _ _ _ refl (r .0 .0 .0 .0 .0 .1)
+    (eq-no _ 3 _ _ _ refl (r .0 .0 .0 .0 .1)
+    (eq-no _ 4 _ _ _ refl (r .0 .0 .0 .1) (eq-no _ 5 _ _ _ refl (r .0 .0 .1) (eq-no _ 6 _ _ _ refl (r .0 .1) (eq-no _ 7 _ _ _ refl (r .1) refl))))))
 
 pub body-of-spec : {M : Type 1} → statement M
 body-of-spec =
@@ -68,4 +73,5 @@ body-of-spec =
     returns-4
     returns-5
     returns-6
-    returns-7)
+    returns-7
+    returns-8)

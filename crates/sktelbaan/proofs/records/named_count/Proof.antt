@@ -33,7 +33,8 @@ unfolding bodyOf
 returns-6 c = λ v.
     let r = c .match .rest in
     simp (ne-eqb _ _ (r .1), ne-eqb _ _ (r .0 .1), ne-eqb _ _ (r .0 .0 .1), ne-eqb _ _ (r .0 .0 .0 .1), ne-eqb _ _ (r .0 .0 .0 .0 .1))
-    (cond-ind (λ (y : Body). 2 ≡ namedCount y) (eqb (c .before .args .kind) 6) (λ _. refl) (λ _. refl))
+    (cond-ind (λ (y : Body). 2 ≡ namedCount y) (eqb (c .before .args .kind) 6) (λ _. refl)
+    (λ _. cond-ind (λ (y : Body). 2 ≡ namedCount y) (eqb (c .before .args .kind) 7) (λ _. refl) (λ _. refl)))
 
 pub named-count-spec : {M : Type 1} → statement M
 named-count-spec =

@@ -1,5 +1,6 @@
--- `ink_level`: the name decides, None first.
+-- `ink_level`: the name decides, None first, and then the exponent.
 use mathlib.Core.Path.{refl, ap}
+use borrow.Author.Tests.{ne-eqb}
 use Rattle.fixed.proofs.Decide.{is-yes, is-no}
 use Rattle.cie.specs.declared.Closing.the-variants.{NoMark, EveryInk}
 use Rattle.space.specs.Levels.{inkLevel}
@@ -36,7 +37,15 @@ returns-2 c = is-no _ _ _ _ (c .before .before .before .before .before .is-name 
 
 returns-3 : tie.Need-returns-3
 unfolding inkLevel
-returns-3 c = is-no _ _ _ _ (c .before .before .before .before .is-name .ensures) (c .before .before .before .if1 .left) (is-no _ _ _ _ (c .before .is-name2 .ensures) (c .if2 .left) refl)
+returns-3 c =
+    let named = c .before .before .before in
+    is-no _ _ _ _ (named .before .before .before .is-name .ensures) (named .before .before .if1 .left) (is-no _ _ _ _ (named .is-name2 .ensures) (c .before .before .if2 .left) (rw (c .if3 .taken)))
+
+returns-4 : tie.Need-returns-4
+unfolding inkLevel
+returns-4 c =
+    let named = c .before .before .before in
+    is-no _ _ _ _ (named .before .before .before .is-name .ensures) (named .before .before .if1 .left) (is-no _ _ _ _ (named .is-name2 .ensures) (c .before .before .if2 .left) (rw (ne-eqb _ _ (c .if3 .left))))
 
 pub ink-level-spec : {M : Type 1} → statement M
 ink-level-spec =
@@ -50,4 +59,5 @@ ink-level-spec =
     is-name-requires-2
     no-ranges-requires-2
     returns-2
-    returns-3)
+    returns-3
+    returns-4)

@@ -51,6 +51,12 @@ enum-told-2 c = search needs
 nothing-requires-2 : tie.Need-nothing-requires-2
 nothing-requires-2 c κs = search needs
 
+enum-told-3 : tie.Need-enum-told-3
+enum-told-3 c = search needs
+
+nothing-requires-3 : tie.Need-nothing-requires-3
+nothing-requires-3 c κs = search needs
+
 returns : tie.Need-returns
 unfolding levelOf
 returns c = rw (c .before .enum-told .given .1) (c .nothing .ensures)
@@ -79,6 +85,10 @@ returns-7 : tie.Need-returns-7
 unfolding levelOf
 returns-7 c = rw (c .before .enum-told2 .given .1) (c .nothing2 .ensures)
 
+returns-8 : tie.Need-returns-8
+unfolding levelOf
+returns-8 c = rw (c .before .enum-told3 .given .1) (c .nothing3 .ensures)
+
 pub level-of-spec : {M : Type 1} → statement M
 level-of-spec =
     tie.close
@@ -98,10 +108,13 @@ level-of-spec =
     ink-level-requires
     enum-told-2
     nothing-requires-2
+    enum-told-3
+    nothing-requires-3
     returns
     returns-2
     returns-3
     returns-4
     returns-5
     returns-6
-    returns-7)
+    returns-7
+    returns-8)

@@ -37,6 +37,12 @@ enum-told-2 c = search needs
 nothing-requires-3 : tie.Need-nothing-requires-3
 nothing-requires-3 c κs = search needs
 
+enum-told-3 : tie.Need-enum-told-3
+enum-told-3 c = search needs
+
+nothing-requires-4 : tie.Need-nothing-requires-4
+nothing-requires-4 c κs = search needs
+
 returns-2 : tie.Need-returns-2
 returns-2 c = plain-read _ _ (c .before .before .before .before .before .level-at .ensures) (is-no _ _ _ _ (c .before .is-named .ensures) (c .if1 .left) refl ∙ sym (ap plain (c .before .before .before .l .given .1)))
 
@@ -45,6 +51,9 @@ returns-3 c = plain-read _ _ (c .before .before .before .level-at .ensures) (c .
 
 returns-4 : tie.Need-returns-4
 returns-4 c = plain-read _ _ (c .before .before .before .level-at .ensures) (c .nothing3 .ensures ∙ sym (ap plain (c .before .enum-told2 .given .1)))
+
+returns-5 : tie.Need-returns-5
+returns-5 c = plain-read _ _ (c .before .before .before .level-at .ensures) (c .nothing4 .ensures ∙ sym (ap plain (c .before .enum-told3 .given .1)))
 
 pub plain-at-spec : {M : Type 1} → statement M
 plain-at-spec =
@@ -59,6 +68,9 @@ plain-at-spec =
     nothing-requires-2
     enum-told-2
     nothing-requires-3
+    enum-told-3
+    nothing-requires-4
     returns-2
     returns-3
-    returns-4)
+    returns-4
+    returns-5)

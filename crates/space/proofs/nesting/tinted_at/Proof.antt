@@ -17,6 +17,9 @@ enum-told-2 c = search needs
 enum-told-3 : tie.Need-enum-told-3
 enum-told-3 c = search needs
 
+enum-told-4 : tie.Need-enum-told-4
+enum-told-4 c = search needs
+
 nothing-requires : tie.Need-nothing-requires
 nothing-requires c κs = search needs
 
@@ -27,7 +30,10 @@ returns-2 : tie.Need-returns-2
 returns-2 c = let e = c .enum-told2 .given .1 in tinted-read _ _ (c .before .before .level-at .ensures) (e ∙ sym (ap tinted e))
 
 returns-3 : tie.Need-returns-3
-returns-3 c = tinted-read _ _ (c .before .before .before .level-at .ensures) (c .nothing .ensures ∙ sym (ap tinted (c .before .enum-told3 .given .1)))
+returns-3 c = let e = c .enum-told3 .given .1 in tinted-read _ _ (c .before .before .level-at .ensures) (e ∙ sym (ap tinted e))
+
+returns-4 : tie.Need-returns-4
+returns-4 c = tinted-read _ _ (c .before .before .before .level-at .ensures) (c .nothing .ensures ∙ sym (ap tinted (c .before .enum-told4 .given .1)))
 
 pub tinted-at-spec : {M : Type 1} → statement M
 tinted-at-spec =
@@ -37,7 +43,9 @@ tinted-at-spec =
     enum-told
     enum-told-2
     enum-told-3
+    enum-told-4
     nothing-requires
     returns
     returns-2
-    returns-3)
+    returns-3
+    returns-4)

@@ -18,6 +18,9 @@ enum-told c = search needs
 enum-told-2 : tie.Need-enum-told-2
 enum-told-2 c = search needs
 
+enum-told-3 : tie.Need-enum-told-3
+enum-told-3 c = search needs
+
 returns : tie.Need-returns
 unfolding spaceIn listed
 returns c = λ page. rw (c .before .before .l .given .1) (c .plain-highs .ensures)
@@ -30,7 +33,11 @@ returns-3 : tie.Need-returns-3
 unfolding spaceIn listed
 returns-3 c = λ page. rw (c .enum-told2 .given .1)
 
+returns-4 : tie.Need-returns-4
+unfolding spaceIn listed
+returns-4 c = λ page. rw (c .enum-told3 .given .1)
+
 pub highs-spec : {M : Type 1} → statement M
 highs-spec =
     tie.close
-    (tie.spec enum-known-l plain-highs-requires enum-told enum-told-2 returns returns-2 returns-3)
+    (tie.spec enum-known-l plain-highs-requires enum-told enum-told-2 enum-told-3 returns returns-2 returns-3 returns-4)

@@ -1,0 +1,3 @@
+pub mod Calculator
+pub mod Written
+pub mod Promises

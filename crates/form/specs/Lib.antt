@@ -1,0 +1,3 @@
+pub mod Paths
+pub mod Table
+pub mod Steps

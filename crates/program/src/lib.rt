@@ -1,0 +1,19 @@
+// Calculator text (clause 7.10.5): its tokens, its program, and the words of the program's flat form.
+mod braces;
+mod compiling;
+mod counts;
+mod kept;
+mod lexing;
+mod naming;
+mod tokens;
+mod types;
+mod words;
+
+pub use compiling::compile;
+pub use types::Built;
+
+// The most tokens of a text, braces counted.
+pub const TOKENS: usize = 400;
+
+// Room for the words of any text: a token gives at most two.
+pub const ROOM: usize = 800;

@@ -1,0 +1,7 @@
+pub mod Stack
+pub mod Programs
+pub mod Operators
+pub mod Meaning
+pub mod Judging
+pub mod Flat
+pub mod Memory
