@@ -23,7 +23,8 @@ use Rattle.space.specs.WellMade.{WellMade}
 use Rattle.space.proofs.Counts.{count-high, limits-high}
 use Rattle.recipe.specs.Recipes.{limitWords, limitsOf, closingWords, endsOf, stepsOf, recipeOf}
 use Rattle.recipe.proofs.Longest.{recipe-short}
-use Rattle.colour.specs.Colours.{limitedTo, settled, valued, answered}
+use Rattle.values.specs.Limits.{limitedTo}
+use Rattle.colour.specs.Colours.{settled, valued, answered}
 
 -- ---- the limits of the first m components
 

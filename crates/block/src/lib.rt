@@ -1,5 +1,4 @@
 // A record as a block of 512 bytes: writing it, reading it, and the two round trips.
-mod fields;
 mod reading;
 mod trips;
 mod types;

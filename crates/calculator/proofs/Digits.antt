@@ -9,10 +9,10 @@ use native.Mathlib.Omega.{arith}
 use borrow.Author.Tests.{le-leb, lt-leb}
 use lib.IntN.{ℤ, pos, negsuc, negℤ}
 use lib.Dec.{leb, eqb}
-use Rattle.lexer.specs.Chars.{decimal}
-use Rattle.lexer.specs.Numbers.{none, numeric, afterOther, withDigit, withOther, withFigure, numberOf, scaleOf, millionths, fits, valueOf}
-use Rattle.lexer.specs.declared.types.Part.the-variants.{Sign, Digits, Decimals}
-use Rattle.lexer.specs.declared.types.Number.{Number}
+use Rattle.lexical.specs.Chars.{decimal}
+use Rattle.lexical.specs.Numbers.{none, numeric, afterOther, withDigit, withOther, withFigure, numberOf, scaleOf, millionths, fits, valueOf}
+use Rattle.lexical.specs.declared.types.Part.the-variants.{Sign, Digits, Decimals}
+use Rattle.lexical.specs.declared.types.Number.{Number}
 use Rattle.program.specs.Tokens.{Token, numT, other, tokenBy, named, wordToken}
 use Rattle.calculator.specs.Written.{digits, figures, numberText, Narrow}
 

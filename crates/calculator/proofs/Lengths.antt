@@ -8,8 +8,8 @@ use borrow.Author.Tests.{leb-true}
 use lib.IntN.{ℤ, pos}
 use lib.Dec.{ltb, leb, eqb}
 use lib.ListN.{length, length-append, length-set}
-use Rattle.lexer.specs.Chars.{white, regular, lineEnd}
-use Rattle.lexer.specs.Numbers.{numeric, numberOf, fits, valueOf}
+use Rattle.lexical.specs.Chars.{white, regular, lineEnd}
+use Rattle.lexical.specs.Numbers.{numeric, numberOf, fits, valueOf}
 use Rattle.stack.specs.Programs.{Op, number, copy, index, roll, two, one, constant, pop, exch, dup, Code}
 use Rattle.stack.specs.Flat.{plainBy, twoBy, oneBy, countsOf, wordsOf, flat}
 use Rattle.program.specs.Tokens.{Token, opens, closes, ifT, ifelseT, copyT, indexT, rollT, numT, opT, other, tokenBy, named, wordToken, braceToken, between, Mode, gap, comment, run, lexed, tokensOf}

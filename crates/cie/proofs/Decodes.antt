@@ -9,10 +9,10 @@ use lib.Ieee.{binary64, div, ofInt}
 use lib.Dec.{eqb, leb}
 use Rattle.fixed.specs.Numbers.{float, mostTenths, gammaSupported}
 use Rattle.fixed.proofs.Decide.{and-left, and-right}
-use Rattle.cie.specs.Tenths.{Greatest, settled, tenThousandths, tenThousand, decodedTenths}
+use Rattle.tenths.specs.Tenths.{Greatest, settled, tenThousandths, tenThousand, decodedTenths}
 use Rattle.cie.specs.Steps.{tenthsOf, decodedWhole, decoded}
 use Rattle.cie.specs.Decodes.{Decodes}
-use Rattle.cie.proofs.Settled.{found, only}
+use Rattle.tenths.proofs.Settled.{found, only}
 use Rattle.cie.proofs.Facts.{decoded-one, decoded-nought}
 
 carried : (gamma : ℤ) → gammaSupported gamma ≡ true → gamma ≡ pos (100000 * tenthsOf gamma)

@@ -18,11 +18,11 @@ use Rattle.cie.specs.declared.GrayClosing.{GrayClosing}
 use Rattle.cie.specs.declared.LabClosing.{LabClosing}
 use Rattle.fixed.specs.Numbers.{float, million, limited}
 use Rattle.fixed.proofs.Decide.{cond-ind}
-use Rattle.cie.specs.Tenths.{decodedTenths}
+use Rattle.tenths.specs.Tenths.{decodedTenths}
 use Rattle.cie.specs.Steps.{whole, one, tenthsOf, decodedWhole, decoded, whiteOf, grayXyz, labP, labN, first, second, third, share, cubed}
 use Rattle.cie.specs.Closings.{calGrayOf, calLabOf}
 use Rattle.cie.proofs.One.{unit, mul-1}
-use Rattle.cie.proofs.Settled.{settled-white, settled-black}
+use Rattle.tenths.proofs.Settled.{settled-white, settled-black}
 
 -- n / d, as floats
 abbrev pub ratio : ℤ → ℕ → Float

@@ -5,7 +5,7 @@ use Prim.Native.Nat.{ℕ, _*_, _%_}
 use lib.IntN.{ℤ, pos}
 use lib.Ieee.{fin, binary64, div, ofInt, ofBits}
 use Rattle.fixed.specs.Numbers.{float, gammaSupported}
-use Rattle.cie.specs.Tenths.{Greatest, tenThousandths, tenThousand}
+use Rattle.tenths.specs.Tenths.{Greatest, tenThousandths, tenThousand}
 use Rattle.cie.specs.Steps.{tenthsOf, decodedWhole, decoded}
 
 pub record Decodes : Type 0 where

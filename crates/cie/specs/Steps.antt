@@ -9,7 +9,7 @@ use lib.Dec.{eqb}
 use lib.ListN.{getD}
 use Rattle.fixed.specs.Numbers.{float, mostTenths}
 use Rattle.cie.specs.declared.Xyz.{Xyz}
-use Rattle.cie.specs.Tenths.{decodedTenths}
+use Rattle.tenths.specs.Tenths.{decodedTenths}
 
 -- a whole number as a float: exact below 2⁵³
 abbrev pub whole : ℕ → Float

@@ -1,9 +1,7 @@
 // From numbers to colours: the steps on f64 (FORMAT.md, Colour steps), each operation rounded once and in that order, and the closing steps that end in an answer.
 mod closings;
 mod lab_step;
-mod limbs;
 mod steps;
-mod tenths;
 
 pub use closings::close;
 pub use closings::close_gray;

@@ -4,9 +4,9 @@ ghost use Prim.Native.Nat.{_≤_, _/_, _%_};
 ghost use Rattle.fixed.specs.Numbers.{mostTenths};
 ghost use Rattle.cie.specs.Steps.{tenthsOf, decodedWhole, decoded, whiteOf, matrixOf, grayXyz, rgbXyz};
 use crate::Xyz;
-use crate::tenths::decode_tenths;
 use fixed::TENTHS;
 use fixed::float_of;
+use tenths::decode_tenths;
 
 // The white point of X and Z in millionths, Y being 1.
 pub fn white(xw: i32, zw: i32) -> Xyz

@@ -1,4 +1,3 @@
--- Laws that the proofs cite: the steps on values, and what the values reply level by level.
-pub mod Steps
+-- Laws that the proofs cite: what the values reply level by level, and what the flag of an answer says.
 pub mod Replies
 pub mod Moves

@@ -23,9 +23,10 @@ use Rattle.space.specs.Pages.{plainAt, tintedAt, rowAt, spaceAt}
 use Rattle.space.specs.Levels.{plainIn, spaceIn}
 use Rattle.space.specs.declared.nesting.Level.{Level}
 use Rattle.space.specs.declared.nesting.Level.the-variants.{Plain, Separation, Program, Indexed}
-use Rattle.colour.specs.Colours.{limitedTo, valued, answered}
+use Rattle.values.specs.Limits.{limitedTo}
+use Rattle.values.proofs.Steps.{tint-first}
+use Rattle.colour.specs.Colours.{valued, answered}
 use Rattle.colour.specs.Evaluating.{evaluated}
-use Rattle.colour.proofs.Steps.{tint-first}
 
 -- a plain space's values are limited, and then its closing step
 settles : (c : Closing) (q : Ranges) (v : Colour) → closed c (limitedTo (plainIn c q) (limitCount (plainIn c q)) v) ≡ valued (plainIn c q) v

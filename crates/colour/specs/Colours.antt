@@ -1,21 +1,16 @@
 -- FORMAT.md, Colour steps: what a colour of a space is. Each component is limited first; an Indexed or a Separation makes a colour of the space within.
-use Prim.Native.Nat.{ℕ, zero, suc}
 use mathlib.Core.Bool.{cond}
 use mathlib.Core.List.{List}
 use lib.IntN.{ℤ}
 use lib.Dec.{eqb}
 use lib.ListN.{length}
-use Rattle.fixed.specs.Values.{places, started, limitStep, rowStep, tintStep}
+use Rattle.fixed.specs.Values.{places, started, rowStep, tintStep}
 use Rattle.fixed.specs.declared.values.Colour.{Colour}
 use Rattle.cie.specs.Answers.{Reply, refusal}
 use Rattle.cie.specs.Closings.{closed}
 use Rattle.form.specs.Steps.{programStep}
-use Rattle.space.specs.Spaces.{Space, none, gray, rgb, cmyk, calGray, calRgb, lab, noMark, everyInk, separation, calculated, indexed, countOf, limitCount, lowOf, highOf, closingOf}
-
--- the first m values, each limited to its range
-unfoldable pub limitedTo : Space → ℕ → Colour → Colour
-limitedTo s zero v = v
-limitedTo s (suc m) v = limitStep m (lowOf s m) (highOf s m) (limitedTo s m v)
+use Rattle.space.specs.Spaces.{Space, none, gray, rgb, cmyk, calGray, calRgb, lab, noMark, everyInk, separation, calculated, indexed, countOf, limitCount, closingOf}
+use Rattle.values.specs.Limits.{limitedTo}
 
 -- a plain space: its components limited, but that of a Separation named None, then its closing step
 abbrev pub settled : Space → Colour → Reply

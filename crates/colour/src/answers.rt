@@ -4,10 +4,6 @@ ghost use Rattle.cie.specs.Answers.{meaning, refusal};
 ghost use Rattle.space.specs.Pages.{spaceAt};
 ghost use Rattle.space.specs.Levels.{spaceIn};
 ghost use Rattle.colour.specs.Colours.{valued, answered};
-use crate::values::calculate;
-use crate::values::limit_all;
-use crate::values::pick_row;
-use crate::values::tint;
 use cie::Answer;
 use cie::Answered;
 use cie::close;
@@ -21,6 +17,10 @@ use space::plain_at;
 use space::plain_highs;
 use space::plain_lows;
 use space::tinted_at;
+use values::calculate;
+use values::limit_all;
+use values::pick_row;
+use values::tint;
 
 // What a colour on its way answers in a level's space. It calls itself on the level within, whose rank is lower.
 fn value_in(page: &[u8], l: Level, v: Colour) -> Answered

@@ -2,6 +2,5 @@
 // the closing step.
 mod answers;
 mod evaluating;
-mod values;
 
 pub use evaluating::evaluate;

@@ -64,7 +64,7 @@ fn fresh() -> State
 {
     let l = Lexer {
         mode: Mode::Gap,
-        number: lexer::no_number(),
+        number: lexical::no_number(),
         size: 0,
         seen: 0,
         first: 0,

@@ -1,6 +1,4 @@
 -- Laws that several proofs cite, here and in the crates above.
-pub mod Ranges
-pub mod Values
 pub mod Findings
 pub mod Texts
 pub mod Samples

@@ -7,11 +7,11 @@ use borrow.Author.Tests.{eqb-true, not-true, not-false, leb-false}
 use lib.Dec.{eqb, leb}
 use lib.ListN.{length, getD, drop}
 use Rattle.fixed.proofs.Decide.{and-left, and-right}
-use Rattle.lexer.specs.Chars.{white, regular, lineEnd}
+use Rattle.lexical.specs.Chars.{white, regular, lineEnd}
 use Rattle.lexer.specs.Moves.{more, isGap, begun, inText, ended, joined}
 use Rattle.lexer.specs.declared.types.Mode.{Mode}
 use Rattle.lexer.specs.declared.types.Mode.the-variants.{Gap, Comment, Regular, Name, Hash, HashDigit, Less, Greater, Hex, HexDigit, Text, Return, Escape, Octal, Octals}
-use Rattle.lexer.specs.declared.types.Number.{Number}
+use Rattle.lexical.specs.declared.types.Number.{Number}
 use Rattle.lexer.specs.declared.types.Lexer.{Lexer}
 use Rattle.lexer.specs.Scans.{Word, Scan, bound, after, begunWord, placed, endedScan, endedMet, joinedScan, joinedMet, isNothing, grown, isPlain, isRegular, isSpelled, plainScan, found, scanAt}
 use Rattle.lexer.proofs.Findings.{found-turn}

@@ -5,8 +5,8 @@ use mathlib.Core.List.{List, [], _∷_}
 use Prim.Native.Nat.{ℕ}
 use lib.Dec.{eqb, ltb, leb}
 use lib.IntN.{pos, negsuc}
-use Rattle.lexer.specs.Chars.{white, delimiter, regular, hexOf}
-use Rattle.lexer.specs.Numbers.{numeric, withDigit, withOther, withFigure, afterOther, numberOf, scaleOf, fits, valueOf, exactly}
+use Rattle.lexical.specs.Chars.{white, delimiter, regular, hexOf}
+use Rattle.lexical.specs.Numbers.{numeric, withDigit, withOther, withFigure, afterOther, numberOf, scaleOf, fits, valueOf, exactly}
 use Rattle.lexer.specs.Moves.{begun, more, inText, escapeOf, escaped, inHex, inPair, inHash, inHashPair, ended, joined}
 use Rattle.lexer.specs.Scans.{Scan, Progress, going, stopped, Lexeme, start, after, begunWord, placed, taken, handed, joins, stepOf, fed, finished, tokensOf}
 use Rattle.lexer.specs.declared.types.Token.{Token}

@@ -1,4 +1,2 @@
-pub mod Chars
-pub mod Numbers
 pub mod Moves
 pub mod Scans

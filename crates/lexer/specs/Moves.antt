@@ -4,7 +4,7 @@ use Prim.Native.Nat.{ℕ, _+_, _-_, _*_, _%_}
 use mathlib.Core.Bool.{Bool, true, false, cond}
 use mathlib.Core.List.{List, [], _∷_}
 use lib.Dec.{eqb, ltb}
-use Rattle.lexer.specs.Chars.{white, delimiter, regular, lineEnd, octal, hexOf}
+use Rattle.lexical.specs.Chars.{white, delimiter, regular, lineEnd, octal, hexOf, hexByte}
 use Rattle.lexer.specs.declared.types.Mode.{Mode}
 use Rattle.lexer.specs.declared.types.Mode.the-variants.{Gap, Comment, Regular, Name, Hash, HashDigit, Less, Greater, Hex, HexDigit, Text, Return, Escape, Octal, Octals}
 use Rattle.lexer.specs.declared.types.Token.{Token}
@@ -75,10 +75,6 @@ abbrev pub octalByte : ℕ → ℕ → ℕ
 octalByte v b = (v * 8 + (b - 48)) % 256
 
 -- ---- 7.3.4.3: a hexadecimal string, between two pairs of digits, and within one. White space is passed over
-
--- the byte of two digits
-abbrev pub hexByte : ℕ → ℕ → ℕ
-hexByte d h = d % 16 * 16 + h
 
 unfoldable pub inHex : ℕ → Move
 inHex b = cond (white b) (quiet Hex) (cond (eqb b 62) (whole StringToken) (cond (ltb (hexOf b) 16) (quiet (HexDigit (hexOf b))) bad))

@@ -5,12 +5,12 @@ use mathlib.Core.Bool.{Bool, true, false, _&&_, _||_, not, cond}
 use mathlib.Core.List.{List, [], _∷_, _++_, foldl}
 use lib.Dec.{eqb, ltb}
 use lib.ListN.{take, drop}
-use Rattle.lexer.specs.Chars.{white, regular, lineEnd}
-use Rattle.lexer.specs.Numbers.{none, withFigure}
+use Rattle.lexical.specs.Chars.{white, regular, lineEnd}
+use Rattle.lexical.specs.Numbers.{none, withFigure}
 use Rattle.lexer.specs.Moves.{more, ended, joined, lastMove, isGap}
 use Rattle.lexer.specs.declared.types.Mode.{Mode}
 use Rattle.lexer.specs.declared.types.Mode.the-variants.{Gap, Comment, Regular, Name, Hash, HashDigit, Less, Greater, Hex, HexDigit, Text, Return, Escape, Octal, Octals}
-use Rattle.lexer.specs.declared.types.Number.{Number}
+use Rattle.lexical.specs.declared.types.Number.{Number}
 use Rattle.lexer.specs.declared.types.Token.{Token}
 use Rattle.lexer.specs.declared.types.Event.{Event}
 use Rattle.lexer.specs.declared.types.Event.the-variants.{Quiet, Byte, Figure, WellMade, Bad}

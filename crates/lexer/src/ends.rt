@@ -1,8 +1,6 @@
 // What a byte ends without being a part of it, and what the end of the text ends.
 ghost use mathlib.Core.Path.{_≡_};
 ghost use Rattle.lexer.specs.Moves.{ended, lastMove};
-use crate::chars::hex_byte;
-use crate::chars::is_octal;
 use crate::moves::bad_move;
 use crate::moves::choose;
 use crate::moves::emit_move;
@@ -12,6 +10,8 @@ use crate::moves::whole_move;
 use crate::types::Mode;
 use crate::types::Move;
 use crate::types::Token;
+use lexical::hex_byte;
+use lexical::is_octal;
 
 // What a byte ends.
 pub fn end_mode(m: Mode, b: u8) -> Move

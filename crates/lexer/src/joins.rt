@@ -1,9 +1,6 @@
 // What a byte begins, or is a part of.
 ghost use mathlib.Core.Path.{_≡_};
 ghost use Rattle.lexer.specs.Moves.{begun, joined};
-use crate::chars::is_delimiter;
-use crate::chars::is_line_end;
-use crate::chars::is_white;
 use crate::moves::bad_move;
 use crate::moves::choose;
 use crate::moves::emit_move;
@@ -20,6 +17,9 @@ use crate::strings::octal_byte;
 use crate::types::Mode;
 use crate::types::Move;
 use crate::types::Token;
+use lexical::is_delimiter;
+use lexical::is_line_end;
+use lexical::is_white;
 
 // A byte between tokens.
 fn begin(b: u8) -> Move

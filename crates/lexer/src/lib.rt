@@ -1,28 +1,14 @@
 // The lexer of a designer's text: bytes to tokens, as ISO 32000-1 has them in 7.2 and 7.3. It reads on from any place, so a text may come in parts.
-mod chars;
 mod ends;
 mod joins;
 mod moves;
-mod numbers;
 mod plain;
 mod scans;
 mod strings;
 mod types;
 
-pub use chars::is_delimiter;
-pub use chars::is_line_end;
-pub use chars::is_regular;
-pub use chars::is_white;
 pub use moves::deeper;
 pub use moves::is_gap;
-pub use numbers::is_exactly;
-pub use numbers::is_number;
-pub use numbers::is_whole;
-pub use numbers::no_number;
-pub use numbers::number_fits;
-pub use numbers::value_of;
-pub use numbers::whole;
-pub use numbers::with_figure;
 pub use scans::LONGEST;
 pub use scans::find;
 pub use scans::finish;
@@ -33,7 +19,5 @@ pub use types::Lexer;
 pub use types::Met;
 pub use types::Mode;
 pub use types::Move;
-pub use types::Number;
-pub use types::Part;
 pub use types::Skipped;
 pub use types::Token;

@@ -2,13 +2,13 @@
 ghost use mathlib.Core.Path.{_≡_};
 ghost use mathlib.Core.Bool.{cond};
 ghost use Prim.Native.Nat.{_+_};
-ghost use Rattle.lexer.specs.Chars.{regular};
+ghost use Rattle.lexical.specs.Chars.{regular};
 ghost use Rattle.lexer.specs.Moves.{quiet, emit, figure, whole, bad, more, isGap};
-use crate::chars::is_regular;
 use crate::types::Event;
 use crate::types::Mode;
 use crate::types::Move;
 use crate::types::Token;
+use lexical::is_regular;
 
 // The mode changes, and no more.
 pub fn quiet_move(m: Mode) -> Move

@@ -3,18 +3,18 @@ ghost use mathlib.Core.Path.{_≡_};
 ghost use Prim.Native.Nat.{_≤_};
 ghost use lib.ListN.{length, drop};
 ghost use Rattle.lexer.specs.Scans.{longest, isPlain, isRegular, isSpelled, plainScan, found, scanAt};
-use crate::chars::is_line_end;
-use crate::chars::is_regular;
-use crate::chars::is_white;
 use crate::moves::deeper;
 use crate::moves::is_gap;
-use crate::numbers::no_number;
-use crate::numbers::with_figure;
 use crate::scans::BOUND;
 use crate::scans::note;
 use crate::types::Lexer;
 use crate::types::Mode;
 use crate::types::Skipped;
+use lexical::is_line_end;
+use lexical::is_regular;
+use lexical::is_white;
+use lexical::no_number;
+use lexical::with_figure;
 
 // Whether a byte is plain in a mode.
 fn is_plain(m: Mode, b: u8) -> bool

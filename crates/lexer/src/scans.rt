@@ -9,8 +9,6 @@ use crate::ends::last_mode;
 use crate::joins::join_mode;
 use crate::moves::deeper;
 use crate::moves::is_gap;
-use crate::numbers::no_number;
-use crate::numbers::with_figure;
 use crate::plain::has_plain;
 use crate::plain::skip;
 use crate::types::Event;
@@ -20,7 +18,9 @@ use crate::types::Lexer;
 use crate::types::Met;
 use crate::types::Mode;
 use crate::types::Move;
-use crate::types::Number;
+use lexical::Number;
+use lexical::no_number;
+use lexical::with_figure;
 
 // The bytes that are kept of a name or string.
 pub const LONGEST: usize = 1024;

@@ -2,10 +2,6 @@
 ghost use mathlib.Core.Path.{_≡_};
 ghost use Prim.Native.Nat.{_-_, _≤_};
 ghost use Rattle.lexer.specs.Moves.{inText, escapeOf, escaped, octalByte, inHex, inPair, inHash, inHashPair};
-use crate::chars::hex_byte;
-use crate::chars::hex_of;
-use crate::chars::is_octal;
-use crate::chars::is_white;
 use crate::moves::bad_move;
 use crate::moves::deeper;
 use crate::moves::emit_move;
@@ -14,6 +10,10 @@ use crate::moves::whole_move;
 use crate::types::Mode;
 use crate::types::Move;
 use crate::types::Token;
+use lexical::hex_byte;
+use lexical::hex_of;
+use lexical::is_octal;
+use lexical::is_white;
 
 // A byte of a literal string, in d pairs of parentheses.
 pub fn in_text(d: u32, b: u8) -> Move

@@ -9,10 +9,10 @@ use lib.IntN.{ℤ, pos, negsuc, negℤ, natAbs}
 use lib.ListN.{length}
 use Rattle.lines.specs.Digits.{digit, digits, readAfter, Digit, AllDigits}
 use Rattle.lines.proofs.Digits.{digits-read, digits-decimal}
-use Rattle.lexer.specs.declared.types.Part.{Part}
-use Rattle.lexer.specs.declared.types.Part.the-variants.{Empty, Sign, Digits, Decimals}
-use Rattle.lexer.specs.declared.types.Number.{Number}
-use Rattle.lexer.specs.Numbers.{none, afterDigit, pointed, afterOther, withDigit, withOther, withFigure, scaleOf, millionths, fits, valueOf, wholeIn}
+use Rattle.lexical.specs.declared.types.Part.{Part}
+use Rattle.lexical.specs.declared.types.Part.the-variants.{Empty, Sign, Digits, Decimals}
+use Rattle.lexical.specs.declared.types.Number.{Number}
+use Rattle.lexical.specs.Numbers.{none, afterDigit, pointed, afterOther, withDigit, withOther, withFigure, scaleOf, millionths, fits, valueOf, wholeIn}
 use Rattle.objects.specs.Objects.{lastDigits, decimal, small}
 
 -- a list of digits

@@ -7,13 +7,13 @@ use native.Mathlib.Omega.{arith}
 use borrow.Author.Tests.{lt-ltb, le-leb, lt-leb, ne-eqb, not-true, ltb-true, ltb-false}
 use lib.Dec.{eqb, ltb}
 use Rattle.fixed.proofs.Decide.{cond-ind}
-use Rattle.lexer.specs.Chars.{white, delimiter, regular, hexOf}
-use Rattle.lexer.specs.Numbers.{none, withFigure}
-use Rattle.lexer.specs.Moves.{begun, more, figure, ended, joined, inHash, inHashPair, inHex, inPair, hexByte}
+use Rattle.lexical.specs.Chars.{white, delimiter, regular, hexOf, hexByte}
+use Rattle.lexical.specs.Numbers.{none, withFigure}
+use Rattle.lexer.specs.Moves.{begun, more, figure, ended, joined, inHash, inHashPair, inHex, inPair}
 use Rattle.lexer.specs.Scans.{Word, Scan, Taken, takes, refuses, Progress, going, stopped, bound, grown, after, begunWord, placed, taken, handed, joins, stepOf}
 use Rattle.lexer.specs.declared.types.Mode.{Mode}
 use Rattle.lexer.specs.declared.types.Mode.the-variants.{Gap, Regular, Name, Hash, HashDigit, Less, Greater, Hex, HexDigit}
-use Rattle.lexer.specs.declared.types.Number.{Number}
+use Rattle.lexical.specs.declared.types.Number.{Number}
 use Rattle.lexer.specs.declared.types.Token.{Token}
 use Rattle.lexer.specs.declared.types.Token.the-variants.{NameToken, RegularToken, StringToken, ArrayOpen, ArrayClose, DictOpen, DictClose}
 use Rattle.objects.specs.Objects.{hexDigit}

@@ -11,13 +11,13 @@ use lib.ListN.{length, length-append}
 use Rattle.fixed.proofs.Decide.{and-left, and-right, cond-ind}
 use Rattle.lines.specs.Digits.{digits}
 use Rattle.lines.proofs.Digits.{digits-decimal}
-use Rattle.lexer.specs.Chars.{regular, white, delimiter}
-use Rattle.lexer.specs.Numbers.{none, withFigure}
-use Rattle.lexer.specs.Moves.{more, hexByte}
+use Rattle.lexical.specs.Chars.{regular, white, delimiter, hexByte}
+use Rattle.lexical.specs.Numbers.{none, withFigure}
+use Rattle.lexer.specs.Moves.{more}
 use Rattle.lexer.specs.Scans.{Word, Scan, Taken, takes, refuses, Progress, going, stopped, bound, grown, taken, fed}
 use Rattle.lexer.specs.declared.types.Mode.{Mode}
 use Rattle.lexer.specs.declared.types.Mode.the-variants.{Gap, Regular, Name, Less, Hex}
-use Rattle.lexer.specs.declared.types.Number.{Number}
+use Rattle.lexical.specs.declared.types.Number.{Number}
 use Rattle.lexer.specs.declared.types.Token.{Token}
 use Rattle.lexer.specs.declared.types.Token.the-variants.{NameToken, RegularToken, StringToken, ArrayOpen, ArrayClose, DictOpen, DictClose}
 use Rattle.lexer.proofs.Texts.{fed-append, fed-stopped}

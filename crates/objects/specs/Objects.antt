@@ -7,7 +7,7 @@ use lib.Dec.{eqb, ltb, leb}
 use lib.IntN.{ℤ, pos, negsuc, natAbs}
 use lib.ListN.{length}
 use Rattle.lines.specs.Digits.{digit, digits}
-use Rattle.lexer.specs.Chars.{regular}
+use Rattle.lexical.specs.Chars.{regular}
 
 -- a name and a string, as their bytes; a number in millionths, and a whole number; [ ] << >>
 pub data Object : Type 0 where

@@ -30,7 +30,8 @@ use Rattle.space.proofs.Counts.{count-high}
 use Rattle.page.specs.Outcomes.{accepted}
 use Rattle.page.specs.Validation.{validated}
 use Rattle.page.proofs.WellMade.{well-made-at}
-use Rattle.colour.specs.Colours.{limitedTo, valued, answered}
+use Rattle.values.specs.Limits.{limitedTo}
+use Rattle.colour.specs.Colours.{valued, answered}
 use Rattle.colour.specs.Evaluating.{evaluated}
 use Rattle.colour.proofs.Replies.{page-accepted}
 use Rattle.paper.specs.Closeness.{whiteReply, InUnit, WithinTwo, limitedTint, WhiteAndTints}

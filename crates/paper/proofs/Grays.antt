@@ -22,7 +22,8 @@ use Rattle.space.specs.Spaces.{Space, calGray}
 use Rattle.space.specs.Pages.{plainOf, tintedOf, spaceOf, spaceAt}
 use Rattle.page.specs.Outcomes.{Outcome, accepted}
 use Rattle.page.specs.Validation.{wellSized, faultOne, permitted, programFault, claimedAt, wellFilled, faultClaimed, faultTwo, validated}
-use Rattle.colour.specs.Colours.{limitedTo, valued, answered}
+use Rattle.values.specs.Limits.{limitedTo}
+use Rattle.colour.specs.Colours.{valued, answered}
 use Rattle.colour.specs.Evaluating.{onAccepted, evaluated}
 use Rattle.paper.specs.Paper.{gray0, nought}
 

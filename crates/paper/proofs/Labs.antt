@@ -14,7 +14,8 @@ use Rattle.cie.specs.Answers.{answer, inXyz}
 use Rattle.cie.specs.Closings.{calLabOf, inThree, closedBy}
 use Rattle.cie.proofs.Facts.{Above, one-float, lab-white, lab-black}
 use Rattle.space.specs.Spaces.{lab}
-use Rattle.colour.specs.Colours.{limitedTo, valued, answered}
+use Rattle.values.specs.Limits.{limitedTo}
+use Rattle.colour.specs.Colours.{valued, answered}
 use Rattle.paper.specs.Paper.{Within, White, nought}
 
 pub above : (v : ℤ) → White v → Above v

@@ -9,7 +9,7 @@ use borrow.Author.Tests.{eqb-true, eq-eqb, ne-eqb}
 use lib.Dec.{eqb}
 use lib.ListN.{length, take, drop, getD, length-drop, drop-of-length-le}
 use lib.Seq.{drop-cons, take-suc, getD-drop}
-use Rattle.lexer.specs.Chars.{white, delimiter, regular, lineEnd}
+use Rattle.lexical.specs.Chars.{white, delimiter, regular, lineEnd}
 use Rattle.program.specs.Tokens.{tokenBy, wordToken, braceToken, gap, comment, run, between, lexed, beforeZero}
 use Rattle.program.specs.Lexing.{placeOf, skipped, runOf, afterRun, Runs, tokensFrom, Finds}
 use Rattle.program.specs.declared.types.Next.{Next}

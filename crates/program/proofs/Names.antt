@@ -1,4 +1,4 @@
--- Two names are the same bytes, by their lengths and their bytes one by one; a number is read one figure at a time; and what token they are.
+-- A number is read one figure at a time; and what token a run of regular characters is.
 use mathlib.Core.Path.{_≡_, refl, sym, ap, _∙_}
 use mathlib.Core.Bool.{Bool, true, false, cond, _&&_}
 use mathlib.Core.List.{List, [], _∷_, foldl}
@@ -10,35 +10,9 @@ use lib.IntN.{ℤ, pos}
 use lib.Dec.{eqb}
 use lib.ListN.{length, drop, getD, drop-of-length-le}
 use lib.Seq.{ext-getD, drop-cons}
-use Rattle.lexer.specs.Numbers.{numeric, withFigure, numberOf, fits, valueOf}
-use Rattle.program.specs.Tokens.{numT, other, tokenBy, same, named, wordToken}
-use Rattle.lexer.specs.declared.types.Number.{Number}
-
-same-self : (l : List ℕ) → same l l ≡ true
-unfolding same
-same-self [] = refl
-same-self (x ∷ l) = rw (eq-eqb x x refl) (same-self l)
-
-no-and : (t : Bool) {u : Bool} → u ≡ false → (t && u) ≡ false
-no-and true e = e
-no-and false e = refl
-
-pub same-longer : (a b : List ℕ) → (length a ≡ length b → ⊥) → same a b ≡ false
-unfolding same
-same-longer [] [] h = absurd (h refl)
-same-longer [] (y ∷ b) h = refl
-same-longer (x ∷ a) [] h = refl
-same-longer (x ∷ a) (y ∷ b) h = no-and (eqb x y) (same-longer a b (λ e. h (ap suc e)))
-
-pub same-differs : (a b : List ℕ) (i : ℕ) → i < length a → i < length b → (getD a i 0 ≡ getD b i 0 → ⊥) → same a b ≡ false
-unfolding same
-same-differs [] b i p q h = absurd (omega arith)
-same-differs (x ∷ a) [] i p q h = absurd (omega arith)
-same-differs (x ∷ a) (y ∷ b) zero p q h = rw (ne-eqb x y h)
-same-differs (x ∷ a) (y ∷ b) (suc i) p q h = no-and (eqb x y) (same-differs a b i (omega arith) (omega arith) h)
-
-pub same-all : (a b : List ℕ) → length a ≡ length b → ((k : ℕ) → k < length a → getD a k 0 ≡ getD b k 0) → same a b ≡ true
-same-all a b e h = let q : a ≡ b = ext-getD 0 a b e h in rw q (same-self b)
+use Rattle.lexical.specs.Numbers.{numeric, withFigure, numberOf, fits, valueOf}
+use Rattle.program.specs.Tokens.{numT, other, tokenBy, named, wordToken}
+use Rattle.lexical.specs.declared.types.Number.{Number}
 
 -- the number so far, with the figures that are left
 pub figure-turn : (w : List ℕ) (i : ℕ) (n m : Number) → i < length w → m ≡ withFigure n (getD w i 0) → foldl withFigure n (drop i w) ≡ numberOf w → foldl withFigure m (drop (i + 1) w) ≡ numberOf w

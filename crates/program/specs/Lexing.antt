@@ -5,7 +5,7 @@ use mathlib.Core.Bool.{Bool, true, false, cond}
 use mathlib.Core.List.{List, [], _∷_}
 use lib.Dec.{eqb}
 use lib.ListN.{length, take, drop}
-use Rattle.lexer.specs.Chars.{white, regular, lineEnd}
+use Rattle.lexical.specs.Chars.{white, regular, lineEnd}
 use Rattle.program.specs.Tokens.{Token, tokenBy, gap, lexed}
 use Rattle.program.specs.declared.types.Next.{Next}
 

@@ -7,10 +7,11 @@ use mathlib.Core.Bool.{Bool, true, false, cond, _&&_}
 use mathlib.Core.List.{List, [], _∷_, _++_}
 use lib.IntN.{ℤ, pos}
 use lib.Dec.{eqb, ltb}
+use Rattle.lexical.specs.Names.{same}
 use Rattle.stack.specs.Programs.{Op}
 use Rattle.stack.specs.Flat.{plainBy}
-use Rattle.lexer.specs.Chars.{white, regular, lineEnd}
-use Rattle.lexer.specs.Numbers.{numeric, numberOf, fits, valueOf}
+use Rattle.lexical.specs.Chars.{white, regular, lineEnd}
+use Rattle.lexical.specs.Numbers.{numeric, numberOf, fits, valueOf}
 
 -- a token of the text; `other`: no token that is carried, or a number too fine or too large
 pub data Token : Type 0 where
@@ -43,13 +44,6 @@ tokenBy t z =
 abbrev pub bytes : String → List ℕ
 bytes []ˢ = []
 bytes (c ∷ˢ s) = code c ∷ bytes s
-
--- two names are the same bytes
-unfoldable pub same : List ℕ → List ℕ → Bool
-same [] [] = true
-same [] (y ∷ ys) = false
-same (x ∷ xs) [] = false
-same (x ∷ xs) (y ∷ ys) = eqb x y && same xs ys
 
 -- ---- the code of a name, 0 where it is none of these
 

@@ -4,20 +4,20 @@ ghost use mathlib.Core.Bool.{true, false};
 ghost use Prim.Native.Nat.{_≤_};
 ghost use lib.IntN.{ℤ};
 ghost use lib.ListN.{length, drop};
-ghost use Rattle.lexer.specs.Numbers.{numberOf};
+ghost use Rattle.lexical.specs.Numbers.{numberOf};
 ghost use Rattle.program.specs.Tokens.{tokenBy, wordToken, braceToken};
 ghost use Rattle.program.specs.Lexing.{placeOf, skipped, Runs, Finds};
 use crate::naming::named;
 use crate::types::Next;
-use lexer::Number;
-use lexer::is_line_end;
-use lexer::is_number;
-use lexer::is_regular;
-use lexer::is_white;
-use lexer::no_number;
-use lexer::number_fits;
-use lexer::value_of;
-use lexer::with_figure;
+use lexical::Number;
+use lexical::is_line_end;
+use lexical::is_number;
+use lexical::is_regular;
+use lexical::is_white;
+use lexical::no_number;
+use lexical::number_fits;
+use lexical::value_of;
+use lexical::with_figure;
 
 // The number that a run of regular characters is, if it is one.
 fn number_of(word: &[u8]) -> Number

@@ -1,23 +1,7 @@
 // The names that are carried, by their codes.
 ghost use mathlib.Core.Path.{_≡_};
-ghost use Rattle.program.specs.Tokens.{same, stackNamed, truthNamed, testNamed, sumNamed, named};
-
-// Whether two names are the same bytes.
-fn is_word(word: &[u8], name: &[u8]) -> bool
-    ensures { λ r. ⌜ r ≡ same (now (word .entry)) (now (name .entry)) ⌝ }
-{
-    if word.len() != name.len() {
-        return false;
-    }
-    let mut i: usize = 0;
-    while i < word.len() {
-        if word[i] != name[i] {
-            return false;
-        }
-        i += 1;
-    }
-    true
-}
+ghost use Rattle.program.specs.Tokens.{stackNamed, truthNamed, testNamed, sumNamed, named};
+use lexical::is_word;
 
 // pop, exch or dup, by its code; 0 for any other name.
 fn stack_named(word: &[u8]) -> usize

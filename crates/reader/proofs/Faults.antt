@@ -7,8 +7,8 @@ use native.Mathlib.Nat.{mul-le-mul}
 use borrow.Author.Tests.{eq-eqb, leb-true}
 use lib.Dec.{eqb, leb}
 use Rattle.fixed.proofs.Decide.{and-left, and-right}
-use Rattle.lexer.specs.declared.types.Number.{Number}
-use Rattle.lexer.specs.Numbers.{millionths, fits, wholeIn, exactly}
+use Rattle.lexical.specs.declared.types.Number.{Number}
+use Rattle.lexical.specs.Numbers.{millionths, fits, wholeIn, exactly}
 use Rattle.reader.specs.Entries.{numberFault}
 
 faultless : (a f w : Bool) → _≡_ {A = ℕ} (cond a 12 (cond f (cond w 5 0) 13)) 0 → (f ≡ true) × (w ≡ false)

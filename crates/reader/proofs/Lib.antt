@@ -1,5 +1,4 @@
 -- Laws that several proofs cite, here and in the crates above.
-pub mod Spelling
 pub mod Rings
 pub mod Rooms
 pub mod Masks

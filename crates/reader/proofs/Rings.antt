@@ -11,7 +11,7 @@ use lib.ListN.{length, getD, set, take, drop, length-drop, length-set, drop-of-l
 use lib.Seq.{sets, sets-eq, take-add, take-at, drop-at, length-take-le, take-suc, getD-set-same, getD-set-other, drop-set-lt, drop-set-add, take-set-le, take-all}
 use Rattle.fixed.specs.Bytes.{blocks}
 use Rattle.fixed.proofs.Stores.{sets-append}
-use Rattle.reader.specs.Names.{same}
+use Rattle.lexical.specs.Names.{same}
 use Rattle.reader.specs.Spaces.{Frame, opened, named, nameOf, startOf}
 use Rattle.reader.specs.Kept.{ring, beforeSlot, afterSlot, nameAt, frameAt, framesAt}
 

@@ -5,8 +5,8 @@ use mathlib.Core.Bool.{Bool, _&&_, _||_, not, cond}
 use mathlib.Core.List.{List, [], _∷_}
 use lib.Dec.{eqb, leb}
 use lib.IntN.{ℤ, pos, negℤ}
-use Rattle.lexer.specs.declared.types.Number.{Number}
-use Rattle.lexer.specs.Numbers.{fits, exactly, wholeIn}
+use Rattle.lexical.specs.declared.types.Number.{Number}
+use Rattle.lexical.specs.Numbers.{fits, exactly, wholeIn}
 
 -- CalGray WhitePoint BlackPoint Gamma; CalRGB these and Matrix; Lab WhitePoint BlackPoint Range; a Separation's function FunctionType Domain C0 C1 N
 unfoldable pub keyOf : ℕ → ℕ → Bool

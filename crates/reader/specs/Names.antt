@@ -1,15 +1,8 @@
 -- The names that a text knows (ISO 32000-1, 8.6 and 7.10.3), each as its bytes, once #xx is taken out, and a number for it.
 use Prim.Native.Nat.{ℕ}
-use mathlib.Core.Bool.{Bool, true, false, _&&_, cond}
+use mathlib.Core.Bool.{cond}
 use mathlib.Core.List.{List, [], _∷_}
-use lib.Dec.{eqb}
-
--- whether two names are the same bytes
-unfoldable pub same : List ℕ → List ℕ → Bool
-same [] [] = true
-same [] (y ∷ ys) = false
-same (x ∷ xs) [] = false
-same (x ∷ xs) (y ∷ ys) = eqb x y && same xs ys
+use Rattle.lexical.specs.Names.{same}
 
 -- a row of a table: a name and its number
 pub record Known : Type 0 where
@@ -50,7 +43,17 @@ devices =
 unfoldable pub deviceNamed : List ℕ → ℕ
 deviceNamed w = among devices w
 
--- the keys: WhitePoint, BlackPoint, Gamma, Matrix, Range; of a function FunctionType, Domain, C0, C1, N
+-- the keys of a function: FunctionType, Domain, C0, C1, N
+abbrev pub functionKeys : List Known
+functionKeys =
+    known (70 ∷ 117 ∷ 110 ∷ 99 ∷ 116 ∷ 105 ∷ 111 ∷ 110 ∷ 84 ∷ 121 ∷ 112 ∷ 101 ∷ []) 6 ∷
+    known (68 ∷ 111 ∷ 109 ∷ 97 ∷ 105 ∷ 110 ∷ []) 7 ∷
+    known (67 ∷ 48 ∷ []) 8 ∷
+    known (67 ∷ 49 ∷ []) 9 ∷
+    known (78 ∷ []) 10 ∷
+    []
+
+-- the keys: WhitePoint, BlackPoint, Gamma, Matrix, Range, and those of a function
 abbrev pub keys : List Known
 keys =
     known (87 ∷ 104 ∷ 105 ∷ 116 ∷ 101 ∷ 80 ∷ 111 ∷ 105 ∷ 110 ∷ 116 ∷ []) 1 ∷
@@ -58,12 +61,11 @@ keys =
     known (71 ∷ 97 ∷ 109 ∷ 109 ∷ 97 ∷ []) 3 ∷
     known (77 ∷ 97 ∷ 116 ∷ 114 ∷ 105 ∷ 120 ∷ []) 4 ∷
     known (82 ∷ 97 ∷ 110 ∷ 103 ∷ 101 ∷ []) 5 ∷
-    known (70 ∷ 117 ∷ 110 ∷ 99 ∷ 116 ∷ 105 ∷ 111 ∷ 110 ∷ 84 ∷ 121 ∷ 112 ∷ 101 ∷ []) 6 ∷
-    known (68 ∷ 111 ∷ 109 ∷ 97 ∷ 105 ∷ 110 ∷ []) 7 ∷
-    known (67 ∷ 48 ∷ []) 8 ∷
-    known (67 ∷ 49 ∷ []) 9 ∷
-    known (78 ∷ []) 10 ∷
-    []
+    functionKeys
+
+-- the number of a function's key, 0 for any other name
+unfoldable pub functionKeyNamed : List ℕ → ℕ
+functionKeyNamed w = among functionKeys w
 
 -- the number of a key, 0 for any other name
 unfoldable pub keyNamed : List ℕ → ℕ

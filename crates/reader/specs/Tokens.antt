@@ -6,10 +6,10 @@ use mathlib.Core.List.{List, []}
 use lib.Dec.{eqb, ltb, leb}
 use lib.ListN.{length, set}
 use Rattle.fixed.specs.Bytes.{blocks, grayCode}
-use Rattle.lexer.specs.declared.types.Number.{Number}
+use Rattle.lexical.specs.declared.types.Number.{Number}
 use Rattle.lexer.specs.declared.types.Token.{Token}
 use Rattle.lexer.specs.declared.types.Token.the-variants.{NameToken, RegularToken, StringToken, ArrayOpen, ArrayClose, DictOpen, DictClose}
-use Rattle.lexer.specs.Numbers.{numeric, fits, millionths, valueOf, wholeIn}
+use Rattle.lexical.specs.Numbers.{numeric, fits, millionths, valueOf, wholeIn}
 use Rattle.lexer.specs.Moves.{more}
 use Rattle.lexer.specs.Scans.{Scan, Taken, takes, refuses}
 use Rattle.reader.specs.declared.types.Want.{Want}

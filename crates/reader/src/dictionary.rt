@@ -6,7 +6,7 @@ ghost use Prim.Native.Nat.{ℕ, _+_, _-_, _*_, _/_, _<_, _≤_};
 ghost use lib.Dec.{eqb};
 ghost use lib.IntN.{ℤ};
 ghost use lib.ListN.{length, set};
-ghost use Rattle.lexer.specs.Numbers.{fits, millionths};
+ghost use Rattle.lexical.specs.Numbers.{fits, millionths};
 ghost use Rattle.lexer.specs.Scans.{scanAt};
 ghost use Rattle.reader.specs.Entries.{lengthOf};
 ghost use Rattle.reader.specs.Spaces.{paletteSize};
@@ -33,7 +33,7 @@ use crate::types::Inner;
 use crate::types::Took;
 use crate::types::Want;
 use lexer::Lexer;
-use lexer::Number;
+use lexical::Number;
 
 // `<<`: every value at its default.
 pub fn take_dict(h: Head, t: u32, values: &mut [i32]) -> Took
@@ -136,7 +136,7 @@ fn exponent_of(key: u32, n: Number, e: u8) -> u8
     ensures { λ r. ⌜ r ≡ cond (eqb key 10) (millionths n / 1000000) e ⌝ }
 {
     if key == 10 {
-        return lexer::whole(n) as u8;
+        return lexical::whole(n) as u8;
     }
     e
 }
@@ -152,7 +152,7 @@ fn take_number(h: Head, n: Number, values: &mut [i32]) -> Took
     }
     let p = entries::place_of(e.key);
     let k = e.index as usize;
-    put_value(values, p + k, lexer::value_of(n));
+    put_value(values, p + k, lexical::value_of(n));
     let x = exponent_of(e.key, n, e.exponent);
     let f = Entry {
         key: e.key,
@@ -205,14 +205,14 @@ pub fn take_hival(h: Head, t: u32, n: Number) -> Took
     if t != NUMBER {
         return refuse(h, 12);
     }
-    if !lexer::number_fits(n) {
+    if !lexical::number_fits(n) {
         return refuse(h, 13);
     }
-    if !lexer::is_whole(n, 0, 255) {
+    if !lexical::is_whole(n, 0, 255) {
         return refuse(h, 4);
     }
     let i = h.inner;
-    let v = lexer::whole(n);
+    let v = lexical::whole(n);
     let j = Inner {
         count: i.count,
         code: i.code,

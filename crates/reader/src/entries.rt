@@ -5,7 +5,7 @@ ghost use Prim.Native.Nat.{_+_, _-_, _*_, _/_, _%_, _<_, _≤_, _^_};
 ghost use lib.ListN.{length, replicate};
 ghost use lib.IntN.{pos};
 ghost use Rattle.reader.specs.Entries.{keyOf, lengthOf, metIn, complete, numberFault, placeOf, defaults};
-use lexer::Number;
+use lexical::Number;
 
 // How many values a dictionary has.
 pub const VALUES: usize = 30;
@@ -92,13 +92,13 @@ pub fn is_complete(kind: u8, m: u8, mask: u32) -> bool
 pub fn number_fault(key: u32, index: u32, n: Number) -> u32
     ensures { λ r. ⌜ r ≡ numberFault key index n ⌝ }
 {
-    if ((key == 6) & !lexer::is_exactly(n, 2)) | ((key == 7) & !lexer::is_exactly(n, index)) {
+    if ((key == 6) & !lexical::is_exactly(n, 2)) | ((key == 7) & !lexical::is_exactly(n, index)) {
         return 12;
     }
-    if !lexer::number_fits(n) {
+    if !lexical::number_fits(n) {
         return 13;
     }
-    if (key == 10) & !lexer::is_whole(n, 1, 4) {
+    if (key == 10) & !lexical::is_whole(n, 1, 4) {
         return 5;
     }
     0

@@ -14,8 +14,8 @@ use crate::types::Head;
 use crate::types::Inner;
 use crate::types::Took;
 use crate::types::Want;
-use lexer::Number;
 use lexer::Token;
+use lexical::Number;
 
 // The sorts of token.
 pub const NAME: u32 = 1;
@@ -48,7 +48,7 @@ pub fn sort_of(t: Token, n: Number) -> u32
     let p = n.part;
     match t {
         Token::NameToken => 1,
-        Token::RegularToken => regular_sort(lexer::is_number(p)),
+        Token::RegularToken => regular_sort(lexical::is_number(p)),
         Token::StringToken => 3,
         Token::ArrayOpen => 4,
         Token::ArrayClose => 5,

@@ -1,14 +1,21 @@
--- The values after a row step and after a tint step, from the words that the code reads for them.
+-- Where a row starts; and the values after a row step and after a tint step, from the words that the code reads for them.
 use mathlib.Core.Path.{_≡_, sym, ap, _∙_}
 use mathlib.Core.List.{List}
-use Prim.Native.Nat.{ℕ, _+_, _*_}
+use Prim.Native.Nat.{ℕ, _+_, _*_, _≤_}
+use native.Mathlib.Nat.{mul-le-mul}
 use native.Mathlib.Omega.{arith}
 use lib.IntN.{ℤ, pos, natAbs}
 use lib.ListN.{drop}
 use lib.Seq.{getD-drop}
 use Rattle.fixed.specs.Numbers.{limited, roundIndex, tintPower, tintValue}
-use Rattle.fixed.specs.Values.{value, filled, indexOf, rowFrom, tintOf, tintedBy}
+use Rattle.fixed.specs.Values.{value, places, filled, indexOf, rowFrom, tintOf, tintedBy}
 use Rattle.fixed.proofs.Listed.{filled-same, index-is}
+
+-- where a row starts
+pub row-start : (i m h : ℕ) → i ≤ h → m ≤ places → h ≤ 255 → i * m ≤ 1020
+row-start i m h p q r =
+    let k : i ≤ 255 = omega arith in
+    mul-le-mul k q
 
 -- x, which is value 0, picks row i: its entries stand after three words and i rows
 pub row-picked : (l v : List ℤ) (m h i : ℕ) (x : ℤ) → pos i ≡ roundIndex x h → x ≡ value v 0

@@ -1,5 +1,4 @@
 -- Laws of recipes that several proofs cite, here and in the crates above.
-pub mod Ranges
 pub mod Acts
 pub mod Stepped
 pub mod Runs

@@ -1,22 +1,21 @@
 -- What each step of a recipe does, over plain lists: a run that begins with the step's words is the run of the words after them, or the answer.
 use mathlib.Core.Path.{_≡_, refl, ap, ap₂, _∙_}
-use mathlib.Core.Bool.{true, false, cond, _&&_, _||_}
+use mathlib.Core.Bool.{true, false, cond, _||_}
 use mathlib.Core.List.{List, [], _∷_, _++_, append-assoc}
 use Prim.Native.Nat.{ℕ, suc, _+_, _*_, _≤_, _<_}
 use native.Mathlib.Omega.{arith}
 use lib.IntN.{ℤ, pos}
 use lib.Signed.{ltZ}
-use lib.Dec.{leb, eqb}
+use lib.Dec.{eqb}
 use lib.ListN.{length, drop, length-append, List·getD-append}
 use lib.Seq.{drop-append-seam, drop-at}
-use borrow.Author.Tests.{lt-ltb, le-ltb, le-leb, eq-eqb}
+use borrow.Author.Tests.{le-ltb, eq-eqb}
 use Rattle.fixed.specs.Numbers.{exponentSupported, gammaSupported, tintValue, outside, indexOutside}
 use Rattle.fixed.specs.Values.{value, places, started, limitStep, indexOf, rowFrom, rowStep, tintOf, tintedBy, tintStep}
-use Rattle.fixed.proofs.Decide.{both}
 use Rattle.fixed.proofs.Listed.{filled-same, index-within, row-room}
 use Rattle.fixed.specs.declared.values.Colour.{Colour}
 use Rattle.form.specs.Steps.{wellFormed, formStep}
-use Rattle.form.proofs.Parts.{part-there, form-there}
+use Rattle.form.proofs.Parts.{part-there}
 use Rattle.cie.specs.Answers.{refusal}
 use Rattle.cie.specs.Closings.{closed}
 use Rattle.cie.specs.declared.GrayClosing.{GrayClosing}
@@ -24,15 +23,12 @@ use Rattle.cie.specs.declared.RgbClosing.{RgbClosing}
 use Rattle.cie.specs.declared.LabClosing.{LabClosing}
 use Rattle.cie.specs.declared.Closing.{Closing}
 use Rattle.cie.specs.declared.Closing.the-variants.{Gray, Rgb, Cmyk, CalGray, CalRgb, Lab, NoMark, EveryInk}
-use Rattle.runner.specs.Steps.{limitRead, rowRead, tintRead, programRead, closeRead, grayRead, rgbRead, stepBy, stepOf}
+use Rattle.steps.specs.Steps.{stepOf}
+use Rattle.steps.specs.declared.Step.the-variants.{Close}
+use Rattle.steps.specs.declared.Read.the-variants.{At}
+use Rattle.steps.proofs.Parsed.{one-to, limit-read, tint-read, program-read, row-read, device-gray-read, device-rgb-read, device-cmyk-read, gray-read, rgb-read, lab-read, no-mark-read, every-ink-read}
 use Rattle.runner.specs.Runs.{longest, ended, runs, ran}
-use Rattle.runner.specs.declared.Step.the-variants.{Limit, Row, Tint, Program, Close}
-use Rattle.runner.specs.declared.Read.the-variants.{At}
 use Rattle.runner.proofs.Stepped.{begun}
-
--- a number of 1 to top passes its test
-pub one-to : (m top : ℕ) → 1 ≤ m → m ≤ top → (leb 1 m && leb m top) ≡ true
-one-to m top low high = both (le-leb 1 m low) (le-leb m top high)
 
 -- ---- the input count
 
@@ -41,12 +37,6 @@ unfolding ran
 count-run m l cs low high short = simp (le-ltb longest (suc (length l)) short, one-to m places low high)
 
 -- ---- a limit
-
-pub limit-read : (k : ℕ) (lo hi : ℤ) (l : List ℤ) → k < places → ltZ hi lo ≡ false → stepOf (pos 1 ∷ pos k ∷ lo ∷ hi ∷ l) ≡ At (Limit k lo hi) 4
-unfolding stepBy limitRead
-limit-read k lo hi l h o =
-    let e : 4 ≤ suc (suc (suc (suc (length l)))) = omega arith in
-    simp (le-ltb _ 4 e, lt-ltb k places h, o)
 
 pub limit-run : (n c k : ℕ) (lo hi : ℤ) (l : List ℤ) (v : Colour) → k < places → ltZ hi lo ≡ false
     → runs n c (pos 1 ∷ pos k ∷ lo ∷ hi ∷ l) v ≡ runs n c l (limitStep k lo hi v)
@@ -57,12 +47,6 @@ limit-run n c k lo hi l v h o = begun n c (pos 1 ∷ pos k ∷ lo ∷ hi ∷ l) 
 module _ (e m : ℕ) (c0 c1 l : List ℤ) (supported : exponentSupported e ≡ true) (low : 1 ≤ m) (high : m ≤ places) (h0 : length c0 ≡ m) (h1 : length c1 ≡ m) where
   abbrev tinted : List ℤ
   tinted = (pos 3 ∷ pos e ∷ pos m ∷ (c0 ++ c1)) ++ l
-
-  pub tint-read : stepOf tinted ≡ At (Tint e m) (3 + 2 * m)
-  unfolding stepBy tintRead
-  tint-read =
-      let o : 3 + 2 * m ≤ suc (suc (suc (length ((c0 ++ c1) ++ l)))) = simp length-append (omega arith) in
-      simp (supported, one-to m places low high, le-ltb _ _ o)
 
   tint-drop : drop (3 + 2 * m) tinted ≡ l
   tint-drop =
@@ -87,7 +71,7 @@ module _ (e m : ℕ) (c0 c1 l : List ℤ) (supported : exponentSupported e ≡ t
   tint-same v = λ i. record { values = tint-values (v .values) i; moved = v .moved || outside (pos 0) (pos 1000000) (value (v .values) 0) }
 
   pub tint-run : (n c : ℕ) (v : Colour) → runs n c ((pos 3 ∷ pos e ∷ pos m ∷ (c0 ++ c1)) ++ l) v ≡ runs n c l (tintStep e m c0 c1 v)
-  tint-run n c v = begun n c tinted v tint-read ∙ ap₂ (λ (x : List ℤ) (y : Colour). runs n c x y) tint-drop (tint-same v)
+  tint-run n c v = begun n c tinted v (tint-read e m c0 c1 l supported low high h0 h1) ∙ ap₂ (λ (x : List ℤ) (y : Colour). runs n c x y) tint-drop (tint-same v)
 
 -- ---- a program: a flat form of k words that leaves m numbers
 
@@ -98,16 +82,12 @@ module _ (m k : ℕ) (ws l : List ℤ) (size : length ws ≡ k) (formed : wellFo
   abbrev head : List ℤ
   head = pos 12 ∷ pos m ∷ pos k ∷ []
 
-  pub program-read : stepOf programmed ≡ At (Program m k) (3 + k)
-  unfolding stepBy programRead
-  program-read = simp (form-there head ws l 3 k refl size m formed)
-
   program-drop : drop (3 + k) programmed ≡ l
   program-drop = drop-at (pos 12 ∷ pos m ∷ pos k ∷ ws) l (3 + k) (let e : suc (suc (suc (length ws))) ≡ 3 + k = omega arith in e)
 
   pub program-run : (n c : ℕ) (v : Colour) → runs n c ((pos 12 ∷ pos m ∷ pos k ∷ ws) ++ l) v ≡ runs n c l (formStep m ws v)
   program-run n c v =
-      begun n c programmed v program-read
+      begun n c programmed v (program-read m k ws l size formed)
       ∙ ap₂ (λ (x y : List ℤ). runs n c x (formStep m y v)) program-drop (part-there head ws l 3 k refl size)
 
 -- ---- a row of a table of h + 1 rows, m entries each
@@ -115,12 +95,6 @@ module _ (m k : ℕ) (ws l : List ℤ) (size : length ws ≡ k) (formed : wellFo
 module _ (m h : ℕ) (t l : List ℤ) (low : 1 ≤ m) (high : m ≤ places) (last : h ≤ 255) (size : length t ≡ m * (h + 1)) where
   abbrev rowed : List ℤ
   rowed = (pos 2 ∷ pos m ∷ pos h ∷ t) ++ l
-
-  pub row-read : stepOf rowed ≡ At (Row m h) (3 + m * (h + 1))
-  unfolding stepBy rowRead
-  row-read =
-      let o : 3 + m * (h + 1) ≤ suc (suc (suc (length (t ++ l)))) = simp length-append (omega arith) in
-      simp (one-to m places low high, le-leb h 255 last, le-ltb _ _ o)
 
   row-drop : drop (3 + m * (h + 1)) rowed ≡ l
   row-drop =
@@ -140,7 +114,7 @@ module _ (m h : ℕ) (t l : List ℤ) (low : 1 ≤ m) (high : m ≤ places) (las
   row-same v = λ i. record { values = row-values (v .values) i; moved = v .moved || indexOutside (value (v .values) 0) h }
 
   pub row-run : (n c : ℕ) (v : Colour) → runs n c ((pos 2 ∷ pos m ∷ pos h ∷ t) ++ l) v ≡ runs n c l (rowStep m h t v)
-  row-run n c v = begun n c rowed v row-read ∙ ap₂ (λ (x : List ℤ) (y : Colour). runs n c x y) row-drop (row-same v)
+  row-run n c v = begun n c rowed v (row-read m h t l low high last size) ∙ ap₂ (λ (x : List ℤ) (y : Colour). runs n c x y) row-drop (row-same v)
 
 -- ---- a closing step, after which nothing stands
 
@@ -148,41 +122,6 @@ pub close-run : (n c : ℕ) (l : List ℤ) (v : Colour) (k : Closing) → stepOf
     → runs n c l v ≡ cond (eqb c n) (closed k v) (refusal 9 0)
 unfolding ended
 close-run n c l v k e = begun n c l v e ∙ simp (eq-eqb (length l) (length l) refl)
-
-pub device-gray-read : stepOf (pos 4 ∷ []) ≡ At (Close Gray) 1
-unfolding stepBy closeRead
-device-gray-read = refl
-
-pub device-rgb-read : stepOf (pos 5 ∷ []) ≡ At (Close Rgb) 1
-unfolding stepBy closeRead
-device-rgb-read = refl
-
-pub device-cmyk-read : stepOf (pos 6 ∷ []) ≡ At (Close Cmyk) 1
-unfolding stepBy closeRead
-device-cmyk-read = refl
-
-pub gray-read : (k : GrayClosing) → gammaSupported (k .gamma) ≡ true → stepOf (pos 7 ∷ k .xw ∷ k .zw ∷ k .gamma ∷ []) ≡ At (Close (CalGray k)) 4
-unfolding stepBy grayRead closeRead
-gray-read k e = simp e
-
-pub rgb-read : (k : RgbClosing) → gammaSupported (k .ga) ≡ true → gammaSupported (k .gb) ≡ true → gammaSupported (k .gc) ≡ true
-    → stepOf
-    (pos 8 ∷ k .ga ∷ k .gb ∷ k .gc ∷ k .xa ∷ k .ya ∷ k .za ∷ k .xb ∷ k .yb ∷ k .zb ∷ k .xc ∷ k .yc ∷ k .zc ∷ [])
-    ≡ At (Close (CalRgb k)) 13
-unfolding stepBy rgbRead closeRead
-rgb-read k a b c = simp (a, b, c)
-
-pub lab-read : (k : LabClosing) → stepOf (pos 9 ∷ k .xw ∷ k .zw ∷ []) ≡ At (Close (Lab k)) 3
-unfolding stepBy closeRead
-lab-read k = refl
-
-pub no-mark-read : stepOf (pos 10 ∷ []) ≡ At (Close NoMark) 1
-unfolding stepBy closeRead
-no-mark-read = refl
-
-pub every-ink-read : stepOf (pos 11 ∷ []) ≡ At (Close EveryInk) 1
-unfolding stepBy closeRead
-every-ink-read = refl
 
 module _ (n c : ℕ) (v : Colour) where
   pub no-mark-run : runs n c (pos 10 ∷ []) v ≡ cond (eqb c n) (closed NoMark v) (refusal 9 0)

@@ -11,10 +11,10 @@ use Rattle.form.specs.Steps.{partOf, formStep}
 use Rattle.cie.specs.Answers.{Reply, refusal}
 use Rattle.cie.specs.Closings.{closed}
 use Rattle.cie.specs.declared.Closing.{Closing}
-use Rattle.runner.specs.Steps.{fills, stepOf}
-use Rattle.runner.specs.declared.Step.{Step}
-use Rattle.runner.specs.declared.Step.the-variants.{Limit, Row, Tint, Program, Close}
-use Rattle.runner.specs.declared.Read.the-variants.{At, Nothing}
+use Rattle.steps.specs.Steps.{fills, stepOf}
+use Rattle.steps.specs.declared.Step.{Step}
+use Rattle.steps.specs.declared.Step.the-variants.{Limit, Row, Tint, Program, Close}
+use Rattle.steps.specs.declared.Read.the-variants.{At, Nothing}
 
 -- the most words of a recipe: those of an Indexed of hival 255 over a Separation over CalRGB, had its program 796 words, the most that its tokens give
 abbrev pub longest : ℕ

@@ -11,8 +11,8 @@ use Rattle.inks.specs.declared.Which.{Which}
 use Rattle.inks.specs.declared.Ink.{Ink}
 use Rattle.inks.specs.declared.Ink.the-variants.{Found, Refused}
 use Rattle.inks.proofs.Laws.{found-short, block-below}
-use Rattle.sktelbaan.specs.Replies.{inHalves}
-use Rattle.sktelbaan.specs.Inks.{onPage, inkOf, placeOf}
+use Rattle.sktelbaan_runner.specs.Replies.{inHalves}
+use Rattle.c_layout.specs.Inks.{onPage, inkOf, placeOf}
 
 module _ (job house name : List ℕ) {r : Ink} (e : meaning r ≡ foundInk job house name) where
   -- the reply that a case of the enum is

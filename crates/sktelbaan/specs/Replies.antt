@@ -1,20 +1,8 @@
--- Replies of the operations that a plate setter does not link, as C has them. What a reply is, and what an answer is as one, stands in `sktelbaan_runner`.
+-- The reply of a designer's text, as C has it. What a reply is stands in `sktelbaan_runner`; the other replies stand in `c_layout`.
 use Prim.Native.Nat.{ℕ}
-use Rattle.page.specs.Outcomes.{Outcome, accepted, refused}
-use Rattle.recipe.specs.SpaceWrites.{Reply as Wrote, wrote, refusal as unwritten}
 use Rattle.designer.specs.declared.types.Reply.{Reply as Read}
 use Rattle.designer.specs.declared.types.Reply.the-variants.{Page, Refused}
-pub use Rattle.sktelbaan_runner.specs.Replies.{inHalves}
-
--- validation: nothing is given where a page is accepted
-abbrev pub verdictOf : Outcome → ℕ
-verdictOf accepted = inHalves 0 0
-verdictOf (refused number block) = inHalves number block
-
--- writing a recipe: its count of words
-abbrev pub wroteOf : Wrote → ℕ
-wroteOf (wrote n) = inHalves 0 n
-wroteOf (unwritten number block) = inHalves number block
+use Rattle.sktelbaan_runner.specs.Replies.{inHalves}
 
 -- the end of a text: how many blocks its page has, or a refusal with its byte
 abbrev pub pageOf : Read → ℕ

@@ -1,5 +1,5 @@
-// The C interface: each operation under a plain name, for C and Rust to link. All that is decided here is which 20 numbers make a record; the rest is what the
-// crates below reply. What a reply of 64 bits is stands in `sktelbaan_runner`.
+// The C interface: each operation under a plain name, for C and Rust to link. How a record and a reply are laid out stands in `c_layout`, what a reply of 64 bits
+// is in `sktelbaan_runner`; the rest is what the crates below reply.
 ghost use mathlib.Core.Path.{_≡_};
 ghost use Rattle.colour.specs.Evaluating.{evaluated};
 ghost use Rattle.inks.specs.Search.{foundInk};
@@ -12,24 +12,23 @@ ghost use Rattle.reader.specs.Texts.{roomAfter};
 ghost use Rattle.designer.specs.State.{replied};
 ghost use Rattle.designer.specs.Lent.{memory, lentFault, viewOf, begunView, partView, endView, answerOf};
 ghost use Rattle.sktelbaan_runner.specs.Replies.{inHalves, replyOf, floatsOf};
-ghost use Rattle.sktelbaan.specs.Replies.{verdictOf, wroteOf, pageOf};
-ghost use Rattle.sktelbaan.specs.Inks.{inkOf, placeOf};
-ghost use Rattle.sktelbaan.specs.Records.{putNumber, putBlock, gotNumbers, gotBytes};
+ghost use Rattle.c_layout.specs.Replies.{verdictOf, wroteOf};
+ghost use Rattle.c_layout.specs.Inks.{inkOf, placeOf};
+ghost use Rattle.c_layout.specs.Records.{putNumber, putBlock, gotNumbers, gotBytes};
+ghost use Rattle.sktelbaan.specs.Replies.{pageOf};
 
-mod answers;
-mod numbers;
-mod records;
 mod texts;
 
 use block::Reply;
 use inks::Ink;
+use sktelbaan_runner::halves;
 
 // Validates a page. The reply gives nothing.
 #[no_mangle]
 pub extern "C" fn sktelbaan_validate(page: &[u8]) -> u64
     ensures { λ r. ⌜ r ≡ verdictOf (validated (now (page .entry))) ⌝ }
 {
-    answers::verdict(page::validate(page))
+    c_layout::verdict(page::validate(page))
 }
 
 // Evaluates a colour of the space at a number of a page. The reply gives 1 for Gray, 2 for RGB, 3 for CMYK, 4 for XYZ, with its one, three or four floats
@@ -44,7 +43,7 @@ pub extern "C" fn sktelbaan_evaluate(
     ensures { λ r. ⌜ r ≡ replyOf (evaluated (now (page .entry)) number (now (components .entry))) ⌝ }
     ensures { λ _. ⌜ now (floats .exit) ≡ floatsOf (evaluated (now (page .entry)) number (now (components .entry))) (now (floats .entry)) ⌝ }
 {
-    answers::put_answer(colour::evaluate(page, number, components), floats)
+    sktelbaan_runner::put_answer(colour::evaluate(page, number, components), floats)
 }
 
 // Writes the recipe of the space at a number of a page. The reply gives its count of words; the others, and on a refusal all, stay as they were.
@@ -53,7 +52,7 @@ pub extern "C" fn sktelbaan_write_recipe(page: &[u8], number: u32, words: &mut [
     ensures { λ r. ⌜ r ≡ wroteOf (writeReply (now (page .entry)) number (now (words .entry))) ⌝ }
     ensures { λ _. ⌜ now (words .exit) ≡ writeWords (now (page .entry)) number (now (words .entry)) ⌝ }
 {
-    answers::count(recipe::write(page, number, words))
+    c_layout::count(recipe::write(page, number, words))
 }
 
 // Runs a recipe on a colour's components. The reply gives 1 for Gray, 2 for RGB, 3 for CMYK, 4 for XYZ, with its one, three or four floats
@@ -77,12 +76,12 @@ pub extern "C" fn sktelbaan_write_block(
     ensures { λ _. ⌜ now (block .exit) ≡ putBlock (now (numbers .entry)) (now (bytes .entry)) (now (block .entry)) ⌝ }
 {
     if block.len() != 512 {
-        return answers::halves(10, 0);
+        return halves(10, 0);
     }
-    if !records::is_record_like(numbers) {
-        return answers::halves(3, 0);
+    if !c_layout::is_record_like(numbers) {
+        return halves(3, 0);
     }
-    answers::done(block::write(records::record_of(numbers, bytes), block))
+    c_layout::done(block::write(c_layout::record_of(numbers, bytes), block))
 }
 
 // Reads the record of a block of 512 bytes. The reply gives nothing; on a refusal the numbers and the bytes stay as they were.
@@ -102,13 +101,13 @@ pub extern "C" fn sktelbaan_read_block(
         Reply::Done => {
             let r = a.found;
             let y = r.body;
-            let v = numbers::numbers_of(r.own, y);
+            let v = c_layout::numbers_of(r.own, y);
             let s = r.bytes;
             *numbers = v;
             *bytes = s;
-            answers::halves(0, 0)
+            halves(0, 0)
         }
-        Reply::Refused(n) => answers::halves(n, 0),
+        Reply::Refused(n) => halves(n, 0),
     }
 }
 
@@ -131,13 +130,13 @@ pub extern "C" fn sktelbaan_find_ink(
             let from = inks::name_start(block) as u32;
             let size = name.len() as u32;
             *place = [from, size];
-            answers::halves(0, answers::on_page(page, block))
+            halves(0, c_layout::on_page(page, block))
         }
         Ink::Refused {
             number,
             page,
             block,
-        } => answers::halves(number, answers::on_page(page, block)),
+        } => halves(number, c_layout::on_page(page, block)),
     }
 }
 
@@ -155,7 +154,7 @@ pub extern "C" fn sktelbaan_begin_text(
     ensures { λ r. ⌜ r ≡ inHalves (lentFault (memory (now (words .entry)) (now (values .entry)) (now (word .entry)) (now (marks .entry)) (now (names .entry)) (now (opens .entry)) (now (blocks .entry)))) 0 ⌝ }
     ensures { λ _. ⌜ viewOf (memory (now (words .exit)) (now (values .exit)) (now (word .entry)) (now (marks .entry)) (now (names .entry)) (now (opens .entry)) (now (blocks .entry))) ≡ begunView (viewOf (memory (now (words .entry)) (now (values .entry)) (now (word .entry)) (now (marks .entry)) (now (names .entry)) (now (opens .entry)) (now (blocks .entry)))) ⌝ }
 {
-    answers::halves(
+    halves(
         designer::begin(words, values, word, marks, names, opens, blocks),
         0,
     )
@@ -178,7 +177,7 @@ pub extern "C" fn sktelbaan_read_text(
     ensures { λ _. ⌜ viewOf (memory (now (words .exit)) (now (values .exit)) (now (word .exit)) (now (marks .exit)) (now (names .exit)) (now (opens .exit)) (now (blocks .exit))) ≡ partView room (viewOf (memory (now (words .entry)) (now (values .entry)) (now (word .entry)) (now (marks .entry)) (now (names .entry)) (now (opens .entry)) (now (blocks .entry)))) (now (text .entry)) ⌝ }
 {
     let n = designer::part(text, room, words, values, word, marks, names, opens, blocks);
-    answers::halves(n, 0)
+    halves(n, 0)
 }
 
 // Ends a designer's text. The reply gives how many blocks were written to the room; on a refusal its byte in place of a block, and the room stays as it was.

@@ -19,7 +19,8 @@ use Rattle.objects.proofs.Written.{readScan}
 use Rattle.reader.specs.declared.types.Want.the-variants.{Shut, Hival, Lookup, Space as Inside}
 use Rattle.reader.specs.declared.types.Entry.{Entry}
 use Rattle.reader.specs.declared.types.Inner.{Inner}
-use Rattle.reader.specs.Names.{same, familyNamed}
+use Rattle.lexical.specs.Names.{same}
+use Rattle.reader.specs.Names.{familyNamed}
 use Rattle.reader.specs.Spaces.{Parser, Frame, Made, with, around, nameOf, bodyOf, recordOf, runOf, runBlocks, madeWith}
 use Rattle.reader.specs.Tokens.{took, tookBy, sortOf, wantedBy, closed, countOf, resumes, resumed, outside, tookHival, withHival, tookLookup}
 use Rattle.spelling.specs.Names.{theIndexed}

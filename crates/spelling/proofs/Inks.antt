@@ -14,7 +14,7 @@ use Rattle.record.specs.Layout.{blockOf}
 use Rattle.record.specs.declared.types.Body.the-variants.{Separation}
 use Rattle.record.specs.declared.types.Four.{Four}
 use Rattle.lexer.specs.Moves.{more}
-use Rattle.lexer.specs.Numbers.{exactly, scaleOf, fits, valueOf}
+use Rattle.lexical.specs.Numbers.{exactly, scaleOf, fits, valueOf}
 use Rattle.lexer.specs.Scans.{Word, takes, taken}
 use Rattle.lexer.specs.declared.types.Token.the-variants.{NameToken, RegularToken}
 use Rattle.objects.specs.Objects.{name, whole, opens, closes, begins, ends, each}
@@ -24,7 +24,8 @@ use Rattle.objects.proofs.Written.{readScan}
 use Rattle.reader.specs.declared.types.Want.the-variants.{Dict, Key, Value, Shut, Ink, Space as Inside}
 use Rattle.reader.specs.declared.types.Entry.{Entry}
 use Rattle.reader.specs.declared.types.Inner.{Inner}
-use Rattle.reader.specs.Names.{same, familyNamed, keyNamed}
+use Rattle.lexical.specs.Names.{same}
+use Rattle.reader.specs.Names.{familyNamed, keyNamed}
 use Rattle.reader.specs.Entries.{one, hundred, keyOf, lengthOf, metIn, complete, numberFault, placeOf, defaults}
 use Rattle.reader.specs.Spaces.{Parser, Frame, Made, with, named, around, nameOf, bodyOf, recordOf, runOf, runBlocks, madeWith}
 use Rattle.reader.specs.Tokens.{took, tookBy, sortOf, wantedBy, tookKey, tookName, keyed, tookValue, tookItems, tookNumber, valued, closed, countOf, resumes, resumed, outside, tookDict, tookInk, inked}

@@ -2,7 +2,7 @@
 use mathlib.Core.Path.{_≡_, ap, _∙_}
 use mathlib.Core.List.{List, _∷_, foldl}
 use Prim.Native.Nat.{ℕ}
-use Rattle.lexer.specs.Numbers.{none}
+use Rattle.lexical.specs.Numbers.{none}
 use Rattle.lexer.specs.Scans.{Word, Taken, takes, taken, Progress, going}
 use Rattle.lexer.specs.declared.types.Mode.the-variants.{Gap}
 use Rattle.objects.specs.Objects.{Object, name, text, number, whole, opens, closes, begins, ends, spaced}

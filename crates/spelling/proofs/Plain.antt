@@ -23,7 +23,8 @@ use Rattle.objects.proofs.Written.{readScan}
 use Rattle.reader.specs.declared.types.Want.the-variants.{Dict, Key, Value}
 use Rattle.reader.specs.declared.types.Entry.{Entry}
 use Rattle.reader.specs.declared.types.Inner.{Inner}
-use Rattle.reader.specs.Names.{same, familyNamed, keyNamed}
+use Rattle.lexical.specs.Names.{same}
+use Rattle.reader.specs.Names.{familyNamed, keyNamed}
 use Rattle.reader.specs.Entries.{keyOf, lengthOf, metIn, complete, numberFault, placeOf, defaults}
 use Rattle.reader.specs.Spaces.{Parser, Frame, Made, with, around, nameOf, bodyOf, recordOf, runOf, runBlocks, madeWith}
 use Rattle.reader.specs.Tokens.{took, tookBy, sortOf, wantedBy, tookKey, tookName, keyed, tookValue, tookNumber, valued, closed, countOf}

@@ -14,7 +14,7 @@ use Rattle.record.specs.Reading.{bodyBy, nameIs}
 use Rattle.record.specs.Rules.{wellLaid, nameShown, wellFormed, lawful, supported, whitePoint, blackPoint, ordered, noneZero, nameFits, paletteEnds, entriesEnd}
 use Rattle.record.specs.declared.types.Triple.{Triple}
 use Rattle.lines.specs.Digits.{digitsIn, digits}
-use Rattle.lexer.specs.Chars.{white, delimiter, regular}
+use Rattle.lexical.specs.Chars.{white, delimiter, regular}
 use Rattle.objects.specs.Objects.{nameByte, lastDigits, decimal, bare}
 use Rattle.space.specs.Pages.{deviceOf, plainOf, inkOf, tintedOf}
 use Rattle.page.specs.Outcomes.{accepted}

@@ -12,10 +12,10 @@ use Rattle.fixed.specs.Bytes.{blocks}
 use Rattle.fixed.proofs.Decide.{both}
 use Rattle.record.specs.Layout.{blockOf}
 use Rattle.record.specs.declared.types.Triple.{Triple}
-use Rattle.lexer.specs.Numbers.{none}
+use Rattle.lexical.specs.Numbers.{none}
 use Rattle.lexer.specs.Scans.{Word, Progress, going, takes}
 use Rattle.lexer.specs.declared.types.Mode.the-variants.{Gap}
-use Rattle.lexer.specs.declared.types.Number.{Number}
+use Rattle.lexical.specs.declared.types.Number.{Number}
 use Rattle.lexer.specs.declared.types.Token.the-variants.{NameToken}
 use Rattle.objects.specs.Objects.{Object, name, number, closes, each, writable}
 use Rattle.objects.proofs.Steps.{scan}
@@ -23,7 +23,8 @@ use Rattle.objects.proofs.Written.{readScan, AllWritable, no-more, _&_}
 use Rattle.reader.specs.declared.types.Want.the-variants.{Top, Space as Inside}
 use Rattle.reader.specs.declared.types.Entry.{Entry}
 use Rattle.reader.specs.declared.types.Inner.{Inner}
-use Rattle.reader.specs.Names.{same, deviceNamed}
+use Rattle.lexical.specs.Names.{same}
+use Rattle.reader.specs.Names.{deviceNamed}
 use Rattle.reader.specs.Spaces.{Parser, Frame, Made, with, nameOf}
 use Rattle.reader.specs.Tokens.{took, tookBy, sortOf, tookSpace, resumes, resumed, outside}
 use Rattle.reader.specs.Tokens as tokens

@@ -9,7 +9,7 @@ use Rattle.record.specs.Layout.{blockOf}
 use Rattle.page.specs.Outcomes.{accepted}
 use Rattle.page.specs.Validation.{validated}
 use Rattle.lexer.specs.declared.types.Mode.the-variants.{Gap}
-use Rattle.lexer.specs.declared.types.Number.{Number}
+use Rattle.lexical.specs.declared.types.Number.{Number}
 use Rattle.lexer.specs.Scans.{Word, Progress, going, bound}
 use Rattle.reader.specs.declared.types.Want.the-variants.{Top}
 use Rattle.reader.specs.declared.types.Entry.{Entry}

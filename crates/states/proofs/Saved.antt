@@ -9,8 +9,8 @@ use lib.Dec.{eqb}
 use lib.ListN.{length, getD, set, take, drop}
 use lib.Seq.{sets}
 use Rattle.fixed.proofs.Stores.{sets-append, sets-front}
-use Rattle.lexer.specs.declared.types.Part.{Part}
-use Rattle.lexer.specs.declared.types.Part.the-variants.{Empty, Sign, Digits, Point, Decimals, Keyword}
+use Rattle.lexical.specs.declared.types.Part.{Part}
+use Rattle.lexical.specs.declared.types.Part.the-variants.{Empty, Sign, Digits, Point, Decimals, Keyword}
 use Rattle.lexer.specs.declared.types.Mode.{Mode}
 use Rattle.lexer.specs.declared.types.Mode.the-variants.{Gap, Comment, Regular, Name, Hash, HashDigit, Less, Greater, Hex, HexDigit, Text, Return, Escape, Octal, Octals}
 use Rattle.lexer.specs.declared.types.Lexer.{Lexer}

@@ -4,11 +4,11 @@ use mathlib.Core.Bool.{Bool, cond}
 use mathlib.Core.List.{List, [], _∷_}
 use lib.Dec.{eqb}
 use lib.ListN.{getD}
-use Rattle.lexer.specs.declared.types.Part.{Part}
-use Rattle.lexer.specs.declared.types.Part.the-variants.{Empty, Sign, Digits, Point, Decimals, Keyword}
+use Rattle.lexical.specs.declared.types.Part.{Part}
+use Rattle.lexical.specs.declared.types.Part.the-variants.{Empty, Sign, Digits, Point, Decimals, Keyword}
 use Rattle.lexer.specs.declared.types.Mode.{Mode}
 use Rattle.lexer.specs.declared.types.Mode.the-variants.{Gap, Comment, Regular, Name, Hash, HashDigit, Less, Greater, Hex, HexDigit, Text, Return, Escape, Octal, Octals}
-use Rattle.lexer.specs.declared.types.Number.{Number}
+use Rattle.lexical.specs.declared.types.Number.{Number}
 use Rattle.lexer.specs.declared.types.Lexer.{Lexer}
 use Rattle.reader.specs.declared.types.Want.{Want}
 use Rattle.reader.specs.declared.types.Want.the-variants.{Top, Family, Dict, Key, Value, Items, Shut, Space, Hival, Lookup, Ink}

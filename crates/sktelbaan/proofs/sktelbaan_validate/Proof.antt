@@ -1,6 +1,6 @@
 -- What validating comes to, as C has it.
 use mathlib.Core.Path.{ap, _∙_}
-use Rattle.sktelbaan.specs.Replies.{verdictOf}
+use Rattle.c_layout.specs.Replies.{verdictOf}
 use borrow.Author.Needs.{needs}
 use Rattle.sktelbaan.proofs.sktelbaan_validate.Statement.{statement}
 use Rattle.sktelbaan.proofs.sktelbaan_validate.Tie as tie

@@ -1,6 +1,6 @@
 -- What writing a recipe replies, as C has it; the words are those that it leaves.
 use mathlib.Core.Path.{ap, _∙_}
-use Rattle.sktelbaan.specs.Replies.{wroteOf}
+use Rattle.c_layout.specs.Replies.{wroteOf}
 use borrow.Author.Needs.{needs}
 use Rattle.sktelbaan.proofs.sktelbaan_write_recipe.Statement.{statement}
 use Rattle.sktelbaan.proofs.sktelbaan_write_recipe.Tie as tie

@@ -8,7 +8,7 @@ use borrow.Author.Needs.{needs}
 use Rattle.fixed.specs.Numbers.{float}
 use Rattle.fixed.proofs.Signs.{signed-back}
 use Rattle.fixed.proofs.Decide.{eq-yes, eq-no}
-use Rattle.cie.specs.Tenths.{decodedTenths}
+use Rattle.tenths.specs.Tenths.{decodedTenths}
 use Rattle.cie.specs.Steps.{tenthsOf, decodedWhole, decoded}
 use Rattle.cie.proofs.steps.decode.Statement.{statement}
 use Rattle.cie.proofs.steps.decode.Tie as tie

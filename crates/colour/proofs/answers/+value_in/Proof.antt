@@ -14,10 +14,10 @@ use Rattle.colour.proofs.answers.value_in.Reads as value-in
 use Rattle.colour.proofs.answers.value_in.Kinds as value-in-kinds
 use Rattle.colour.proofs.answers.+value_in.Lts-value_in as value-in-lts
 use Rattle.cie.proofs.close.Reads as close-reads
-use Rattle.colour.proofs.values.calculate.Reads as calculate-reads
-use Rattle.colour.proofs.values.limit_all.Reads as limit-all-reads
-use Rattle.colour.proofs.values.pick_row.Reads as pick-row-reads
-use Rattle.colour.proofs.values.tint.Reads as tint-reads
+use Rattle.values.proofs.calculate.Reads as calculate-reads
+use Rattle.values.proofs.limit_all.Reads as limit-all-reads
+use Rattle.values.proofs.pick_row.Reads as pick-row-reads
+use Rattle.values.proofs.tint.Reads as tint-reads
 use Rattle.space.proofs.plain_at.Reads as plain-at-reads
 use Rattle.space.proofs.tinted_at.Reads as tinted-at-reads
 use Rattle.space.proofs.count.Reads as count-reads

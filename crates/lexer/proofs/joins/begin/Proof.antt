@@ -1,7 +1,7 @@
 -- White space first, then the delimiters one by one; what is left is regular.
 use mathlib.Core.Path.{sym, _∙_}
 use borrow.Author.Tests.{ne-eqb}
-use Rattle.lexer.specs.Chars.{white}
+use Rattle.lexical.specs.Chars.{white}
 use Rattle.lexer.specs.Moves.{begun}
 use Rattle.lexer.proofs.joins.begin.Statement.{statement}
 use Rattle.lexer.proofs.joins.begin.Tie as tie

@@ -3,7 +3,7 @@ use mathlib.Core.Path.{sym, _∙_}
 use native.Mathlib.Omega.{arith}
 use borrow.Author.Tests.{ne-eqb}
 use Rattle.lexer.specs.Moves.{escaped}
-use Rattle.lexer.proofs.Ranges.{range-low}
+use Rattle.lexical.proofs.Ranges.{range-low}
 use Rattle.lexer.proofs.strings.in_escape.Statement.{statement}
 use Rattle.lexer.proofs.strings.in_escape.Tie as tie
 

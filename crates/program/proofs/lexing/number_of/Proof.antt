@@ -4,7 +4,7 @@ use mathlib.Core.List.{foldl}
 use Prim.Native.Nat.{_-_, _≤_}
 use native.Mathlib.Omega.{arith}
 use lib.ListN.{length, drop}
-use Rattle.lexer.specs.Numbers.{withFigure, numberOf}
+use Rattle.lexical.specs.Numbers.{withFigure, numberOf}
 use Rattle.program.proofs.Names.{figure-turn, figure-end}
 use borrow.Author.Needs.{needs}
 use Rattle.program.proofs.lexing.number_of.Statement.{statement}

@@ -1,7 +1,7 @@
 -- A key that was met or is unknown is 14.
 use mathlib.Core.Path.{sym, _∙_}
 use borrow.Author.Tests.{not-true, not-false}
-use Rattle.lexer.proofs.Values.{and-no}
+use Rattle.lexical.proofs.Values.{and-no}
 use Rattle.reader.specs.Tokens.{tookName, keyed}
 use borrow.Author.Needs.{needs}
 use Rattle.reader.proofs.dictionary.take_name.Statement.{statement}

@@ -1,7 +1,7 @@
 -- A bit that is off has room in the mask.
 use native.Mathlib.Omega.{arith}
 use Rattle.reader.proofs.Masks.{mask-room}
-use Rattle.lexer.specs.Numbers.{fits}
+use Rattle.lexical.specs.Numbers.{fits}
 use borrow.Author.Needs.{needs}
 use Rattle.reader.proofs.entries.with_key.Statement.{statement}
 use Rattle.reader.proofs.entries.with_key.Tie as tie

@@ -1,7 +1,7 @@
--- The table of keys, row by row.
+-- The table of keys, row by row, then those of a function.
 use mathlib.Core.Path.{sym, _∙_}
 use native.Mathlib.Omega.{arith}
-use Rattle.reader.specs.Names.{keyNamed}
+use Rattle.reader.specs.Names.{functionKeyNamed, keyNamed}
 use borrow.Author.Needs.{needs}
 use Rattle.reader.proofs.names.key_named.Statement.{statement}
 use Rattle.reader.proofs.names.key_named.Tie as tie
@@ -105,261 +105,33 @@ returns-5 c =
       omega arith,
     )
 
-slice-aggregate-is-word-6 : tie.Need-slice-aggregate-is-word-6
-slice-aggregate-is-word-6 c = search needs
-
-is-word-requires-6 : tie.Need-is-word-requires-6
-is-word-requires-6 c κs = tt
+function-key-named-requires : tie.Need-function-key-named-requires
+function-key-named-requires c κs = tt
 
 returns-6 : tie.Need-returns-6
-unfolding keyNamed
+unfolding keyNamed functionKeyNamed
 returns-6 c =
-    let is-word6 = c .before .is-word6 in
-    let if5 = c .before .before .before .if5 in
-    let is-word5 = c .before .before .before .before .is-word5 in
-    let back = c .before .before .before .before .before in
-    let if4 = back .before .if4 in
-    let is-word4 = back .before .before .is-word4 in
-    let if3 = back .before .before .before .before .if3 in
-    let is-word3 = back .before .before .before .before .before .is-word3 in
+    let missed = c .before in
+    let is-word5 = missed .before .is-word5 in
+    let if4 = missed .before .before .before .if4 in
+    let is-word4 = missed .before .before .before .before .is-word4 in
+    let back = missed .before .before .before .before .before in
+    let if3 = back .before .if3 in
+    let is-word3 = back .before .before .is-word3 in
+    let if2 = back .before .before .before .before .if2 in
+    let is-word2 = back .before .before .before .before .before .is-word2 in
     let far = back .before .before .before .before .before in
-    let if2 = far .before .before .if2 in
-    let is-word2 = far .before .before .before .is-word2 in
-    let if1 = far .before .before .before .before .before .if1 in
-    let farther = far .before .before .before .before .before in
-    let is-word = farther .before .is-word in (
-      simp (
-        sym (is-word6 .ensures) ∙ c .if6 .taken,
-        sym (is-word5 .ensures) ∙ if5 .left,
-        sym (is-word4 .ensures) ∙ if4 .left,
-        sym
-            (is-word3 .ensures) ∙ if3 .left,
-        sym (is-word2 .ensures) ∙ if2 .left,
-        sym (is-word .ensures) ∙ if1 .left,
-      ),
-      omega arith,
-    )
-
-slice-aggregate-is-word-7 : tie.Need-slice-aggregate-is-word-7
-slice-aggregate-is-word-7 c = search needs
-
-is-word-requires-7 : tie.Need-is-word-requires-7
-is-word-requires-7 c κs = tt
-
-returns-7 : tie.Need-returns-7
-unfolding keyNamed
-returns-7 c =
-    let is-word7 = c .before .is-word7 in
-    let if6 = c .before .before .before .if6 in
-    let is-word6 = c .before .before .before .before .is-word6 in
-    let back = c .before .before .before .before .before in
-    let if5 = back .before .if5 in
-    let is-word5 = back .before .before .is-word5 in
-    let if4 = back .before .before .before .before .if4 in
-    let is-word4 = back .before .before .before .before .before .is-word4 in
-    let far = back .before .before .before .before .before in
-    let if3 = far .before .before .if3 in
-    let is-word3 = far .before .before .before .is-word3 in
-    let if2 = far .before .before .before .before .before .if2 in
-    let farther = far .before .before .before .before .before in
-    let is-word2 = farther .before .is-word2 in
-    let if1 = farther .before .before .before .if1 in
-    let is-word = farther .before .before .before .before .is-word in (
-      simp (
-        sym (is-word7 .ensures) ∙ c .if7 .taken,
-        sym (is-word6 .ensures) ∙ if6 .left,
-        sym (is-word5 .ensures) ∙ if5 .left,
-        sym
-            (is-word4 .ensures) ∙ if4 .left,
-        sym (is-word3 .ensures) ∙ if3 .left,
-        sym (is-word2 .ensures) ∙ if2 .left,
-        sym (is-word .ensures) ∙
-            if1 .left,
-      ),
-      omega arith,
-    )
-
-slice-aggregate-is-word-8 : tie.Need-slice-aggregate-is-word-8
-slice-aggregate-is-word-8 c = search needs
-
-is-word-requires-8 : tie.Need-is-word-requires-8
-is-word-requires-8 c κs = tt
-
-returns-8 : tie.Need-returns-8
-unfolding keyNamed
-returns-8 c =
-    let is-word8 = c .before .is-word8 in
-    let if7 = c .before .before .before .if7 in
-    let is-word7 = c .before .before .before .before .is-word7 in
-    let back = c .before .before .before .before .before in
-    let if6 = back .before .if6 in
-    let is-word6 = back .before .before .is-word6 in
-    let if5 = back .before .before .before .before .if5 in
-    let is-word5 = back .before .before .before .before .before .is-word5 in
-    let far = back .before .before .before .before .before in
-    let if4 = far .before .before .if4 in
-    let is-word4 = far .before .before .before .is-word4 in
-    let if3 = far .before .before .before .before .before .if3 in
-    let farther = far .before .before .before .before .before in
-    let is-word3 = farther .before .is-word3 in
-    let if2 = farther .before .before .before .if2 in
-    let is-word2 = farther .before .before .before .before .is-word2 in
-    let farthest = farther .before .before .before .before .before in
-    let if1 = farthest .before .if1 in
-    let is-word = farthest .before .before .is-word in (
-      simp (
-        sym (is-word8 .ensures) ∙ c .if8 .taken,
-        sym (is-word7 .ensures) ∙ if7 .left,
-        sym (is-word6 .ensures) ∙ if6 .left,
-        sym
-            (is-word5 .ensures) ∙ if5 .left,
+    let if1 = far .before .before .if1 in
+    let is-word = far .before .before .before .is-word in
+    let function = c .function-key-named .ensures in (
+      function .0 ∙ sym (simp (
+        sym (is-word5 .ensures) ∙ missed .if5 .left,
         sym (is-word4 .ensures) ∙ if4 .left,
         sym (is-word3 .ensures) ∙ if3 .left,
-        sym (is-word2 .ensures) ∙
-            if2 .left,
-        sym (is-word .ensures) ∙ if1 .left,
-      ),
-      omega arith,
-    )
-
-slice-aggregate-is-word-9 : tie.Need-slice-aggregate-is-word-9
-slice-aggregate-is-word-9 c = search needs
-
-is-word-requires-9 : tie.Need-is-word-requires-9
-is-word-requires-9 c κs = tt
-
-returns-9 : tie.Need-returns-9
-unfolding keyNamed
-returns-9 c =
-    let is-word9 = c .before .is-word9 in
-    let if8 = c .before .before .before .if8 in
-    let is-word8 = c .before .before .before .before .is-word8 in
-    let back = c .before .before .before .before .before in
-    let if7 = back .before .if7 in
-    let is-word7 = back .before .before .is-word7 in
-    let if6 = back .before .before .before .before .if6 in
-    let is-word6 = back .before .before .before .before .before .is-word6 in
-    let far = back .before .before .before .before .before in
-    let if5 = far .before .before .if5 in
-    let is-word5 = far .before .before .before .is-word5 in
-    let if4 = far .before .before .before .before .before .if4 in
-    let farther = far .before .before .before .before .before in
-    let is-word4 = farther .before .is-word4 in
-    let if3 = farther .before .before .before .if3 in
-    let is-word3 = farther .before .before .before .before .is-word3 in
-    let farthest = farther .before .before .before .before .before in
-    let if2 = farthest .before .if2 in
-    let is-word2 = farthest .before .before .is-word2 in
-    let if1 = farthest .before .before .before .before .if1 in
-    let is-word = farthest .before .before .before .before .before .is-word in (
-      simp (
-        sym (is-word9 .ensures) ∙ c .if9 .taken,
-        sym (is-word8 .ensures) ∙ if8 .left,
-        sym (is-word7 .ensures) ∙ if7 .left,
-        sym
-            (is-word6 .ensures) ∙ if6 .left,
-        sym (is-word5 .ensures) ∙ if5 .left,
-        sym (is-word4 .ensures) ∙ if4 .left,
-        sym (is-word3 .ensures) ∙
-            if3 .left,
         sym (is-word2 .ensures) ∙ if2 .left,
         sym (is-word .ensures) ∙ if1 .left,
-      ),
-      omega arith,
-    )
-
-slice-aggregate-is-word-10 : tie.Need-slice-aggregate-is-word-10
-slice-aggregate-is-word-10 c = search needs
-
-is-word-requires-10 : tie.Need-is-word-requires-10
-is-word-requires-10 c κs = tt
-
-returns-10 : tie.Need-returns-10
-unfolding keyNamed
-returns-10 c =
-    let is-word10 = c .before .is-word10 in
-    let if9 = c .before .before .before .if9 in
-    let is-word9 = c .before .before .before .before .is-word9 in
-    let back = c .before .before .before .before .before in
-    let if8 = back .before .if8 in
-    let is-word8 = back .before .before .is-word8 in
-    let if7 = back .before .before .before .before .if7 in
-    let is-word7 = back .before .before .before .before .before .is-word7 in
-    let far = back .before .before .before .before .before in
-    let if6 = far .before .before .if6 in
-    let is-word6 = far .before .before .before .is-word6 in
-    let if5 = far .before .before .before .before .before .if5 in
-    let farther = far .before .before .before .before .before in
-    let is-word5 = farther .before .is-word5 in
-    let if4 = farther .before .before .before .if4 in
-    let is-word4 = farther .before .before .before .before .is-word4 in
-    let farthest = farther .before .before .before .before .before in
-    let if3 = farthest .before .if3 in
-    let is-word3 = farthest .before .before .is-word3 in
-    let if2 = farthest .before .before .before .before .if2 in
-    let is-word2 = farthest .before .before .before .before .before .is-word2 in
-    let back25 = farthest .before .before .before .before .before in
-    let if1 = back25 .before .before .if1 in
-    let is-word = back25 .before .before .before .is-word in (
-      simp (
-        sym (is-word10 .ensures) ∙ c .if10 .taken,
-        sym (is-word9 .ensures) ∙ if9 .left,
-        sym (is-word8 .ensures) ∙ if8 .left,
-        sym
-            (is-word7 .ensures) ∙ if7 .left,
-        sym (is-word6 .ensures) ∙ if6 .left,
-        sym (is-word5 .ensures) ∙ if5 .left,
-        sym (is-word4 .ensures) ∙
-            if4 .left,
-        sym (is-word3 .ensures) ∙ if3 .left,
-        sym (is-word2 .ensures) ∙ if2 .left,
-        sym (is-word .ensures) ∙ if1 .left,
-      ),
-      omega arith,
-    )
-
-returns-11 : tie.Need-returns-11
-unfolding keyNamed
-returns-11 c =
-    let is-word10 = c .before .is-word10 in
-    let if9 = c .before .before .before .if9 in
-    let is-word9 = c .before .before .before .before .is-word9 in
-    let back = c .before .before .before .before .before in
-    let if8 = back .before .if8 in
-    let is-word8 = back .before .before .is-word8 in
-    let if7 = back .before .before .before .before .if7 in
-    let is-word7 = back .before .before .before .before .before .is-word7 in
-    let far = back .before .before .before .before .before in
-    let if6 = far .before .before .if6 in
-    let is-word6 = far .before .before .before .is-word6 in
-    let if5 = far .before .before .before .before .before .if5 in
-    let farther = far .before .before .before .before .before in
-    let is-word5 = farther .before .is-word5 in
-    let if4 = farther .before .before .before .if4 in
-    let is-word4 = farther .before .before .before .before .is-word4 in
-    let farthest = farther .before .before .before .before .before in
-    let if3 = farthest .before .if3 in
-    let is-word3 = farthest .before .before .is-word3 in
-    let if2 = farthest .before .before .before .before .if2 in
-    let is-word2 = farthest .before .before .before .before .before .is-word2 in
-    let back25 = farthest .before .before .before .before .before in
-    let if1 = back25 .before .before .if1 in
-    let is-word = back25 .before .before .before .is-word in (
-      simp (
-        sym (is-word10 .ensures) ∙ c .if10 .left,
-        sym (is-word9 .ensures) ∙ if9 .left,
-        sym (is-word8 .ensures) ∙ if8 .left,
-        sym
-            (is-word7 .ensures) ∙ if7 .left,
-        sym (is-word6 .ensures) ∙ if6 .left,
-        sym (is-word5 .ensures) ∙ if5 .left,
-        sym (is-word4 .ensures) ∙
-            if4 .left,
-        sym (is-word3 .ensures) ∙ if3 .left,
-        sym (is-word2 .ensures) ∙ if2 .left,
-        sym (is-word .ensures) ∙ if1 .left,
-      ),
-      omega arith,
+      )),
+      function .1,
     )
 
 pub key-named-spec : {M : Type 1} → statement M
@@ -381,19 +153,5 @@ key-named-spec =
     slice-aggregate-is-word-5
     is-word-requires-5
     returns-5
-    slice-aggregate-is-word-6
-    is-word-requires-6
-    returns-6
-    slice-aggregate-is-word-7
-    is-word-requires-7
-    returns-7
-    slice-aggregate-is-word-8
-    is-word-requires-8
-    returns-8
-    slice-aggregate-is-word-9
-    is-word-requires-9
-    returns-9
-    slice-aggregate-is-word-10
-    is-word-requires-10
-    returns-10
-    returns-11)
+    function-key-named-requires
+    returns-6)

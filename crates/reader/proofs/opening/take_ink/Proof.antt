@@ -6,7 +6,7 @@ use denote.Ref.{now}
 use native.Mathlib.Omega.{arith}
 use lib.Dec.{eqb, leb}
 use Rattle.fixed.proofs.Decide.{and-right}
-use Rattle.lexer.proofs.Ranges.{range-high}
+use Rattle.lexical.proofs.Ranges.{range-high}
 use Rattle.reader.specs.Tokens.{tookInk, inked}
 use Rattle.reader.proofs.Turning.{ring-named}
 use borrow.Author.Needs.{needs}

@@ -7,10 +7,10 @@ use native.Mathlib.Omega.{arith}
 use lib.ListN.{length, drop}
 use denote.Enum.Declared as Declared
 use Rattle.cie.specs.declared.Closing.{Closing}
-use Rattle.runner.specs.declared.Step.{Step}
-use Rattle.runner.specs.declared.Step.the-variants.{Close}
+use Rattle.steps.specs.declared.Step.{Step}
+use Rattle.steps.specs.declared.Step.the-variants.{Close}
 use Rattle.runner.specs.Runs.{runs}
-use Rattle.runner.proofs.Step as StepEnum
+use Rattle.steps.proofs.Step as StepEnum
 use Rattle.runner.proofs.Stepped.{Known, none-read, one-read}
 use borrow.Author.Needs.{needs}
 use Rattle.runner.proofs.running.run_steps.Statement.{statement}
