@@ -10,6 +10,7 @@ use record::Four;
 use record::Ranges;
 use record::Triple;
 
+// A triple is stored as three numbers.
 pub fn put_triple(out: &mut [u8], at: usize, t: Triple)
     requires { ⌜ at + 12 ≤ length (now out) ⌝ }
     ensures { λ _. ⌜ now (out .exit) ≡ puts (now (out .entry)) at (triple t []) ⌝ }
@@ -19,6 +20,7 @@ pub fn put_triple(out: &mut [u8], at: usize, t: Triple)
     put_num(out, at + 8, t.z);
 }
 
+// A number for each component of an alternate space, four in all.
 pub fn put_four(out: &mut [u8], at: usize, q: Four)
     requires { ⌜ at + 16 ≤ length (now out) ⌝ }
     ensures { λ _. ⌜ now (out .exit) ≡ puts (now (out .entry)) at (four q []) ⌝ }
