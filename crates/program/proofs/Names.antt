@@ -1,15 +1,12 @@
 -- A number is read one figure at a time; and what token a run of regular characters is.
-use mathlib.Core.Path.{_≡_, refl, sym, ap, _∙_}
-use mathlib.Core.Bool.{Bool, true, false, cond, _&&_}
-use mathlib.Core.List.{List, [], _∷_, foldl}
-use Prim.Native.Nat.{ℕ, zero, suc, _+_, _≤_, _<_}
-use native.Mathlib.Omega.{arith}
+use mathlib.Core.Path.{_≡_, sym, ap, _∙_}
+use mathlib.Core.Bool.{Bool, true, false, cond}
+use mathlib.Core.List.{List, foldl}
+use Prim.Native.Nat.{ℕ, suc, _+_, _≤_, _<_}
 use native.Mathlib.Numerals.{add-one}
-use borrow.Author.Tests.{eq-eqb, ne-eqb}
 use lib.IntN.{ℤ, pos}
-use lib.Dec.{eqb}
 use lib.ListN.{length, drop, getD, drop-of-length-le}
-use lib.Seq.{ext-getD, drop-cons}
+use lib.Seq.{drop-cons}
 use Rattle.lexical.specs.Numbers.{numeric, withFigure, numberOf, fits, valueOf}
 use Rattle.program.specs.Tokens.{numT, other, tokenBy, named, wordToken}
 use Rattle.lexical.specs.declared.types.Number.{Number}
