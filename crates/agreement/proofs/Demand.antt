@@ -21,7 +21,7 @@ use Rattle.space.specs.WellMade.{WellMade}
 use Rattle.space.proofs.Asked.{asked-space}
 use Rattle.colour.specs.Colours.{valued, answered}
 use Rattle.colour.proofs.Replies.{answered-8, answered-9, answered-as, page-accepted}
-use Rattle.recipe.specs.Recipes.{recipeOf}
+use Rattle.parts.specs.Recipes.{recipeOf}
 use Rattle.recipe.specs.SpaceWrites.{wrote, refusal as unwritten, replied, wordsAfter}
 use Rattle.recipe.specs.PageWrites.{writeReply, writeWords}
 use Rattle.recipe.proofs.Longest.{recipe-short}

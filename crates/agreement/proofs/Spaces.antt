@@ -21,7 +21,7 @@ use Rattle.form.proofs.Filled.{flat-fitting, form-is-program}
 use Rattle.space.specs.Spaces.{Space, none, gray, rgb, cmyk, calGray, calRgb, lab, noMark, everyInk, separation, calculated, indexed, countOf, limitCount, lowOf, highOf, pick3, closingOf}
 use Rattle.space.specs.WellMade.{WellMade}
 use Rattle.space.proofs.Counts.{count-high, limits-high}
-use Rattle.recipe.specs.Recipes.{limitWords, limitsOf, closingWords, endsOf, stepsOf, recipeOf}
+use Rattle.parts.specs.Recipes.{limitWords, limitsOf, closingWords, endsOf, stepsOf, recipeOf}
 use Rattle.recipe.proofs.Longest.{recipe-short}
 use Rattle.values.specs.Limits.{limitedTo}
 use Rattle.colour.specs.Colours.{settled, valued, answered}

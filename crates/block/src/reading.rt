@@ -5,10 +5,10 @@ use crate::types::ReadReply;
 use crate::types::Reply;
 use record::Body;
 use record::Record;
-use record::fault;
-use record::is_checked;
-use record::is_well_laid;
 use record::record_at;
+use rules::fault;
+use rules::is_well_laid;
+use sums::is_checked;
 
 // The refusal n, with no record.
 pub fn refusal(n: u32) -> ReadReply

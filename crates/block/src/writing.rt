@@ -11,8 +11,8 @@ use layout::put_one;
 use layout::put_two;
 use record::Body;
 use record::Record;
-use record::fault;
-use record::sum_up;
+use rules::fault;
+use sums::sum_up;
 
 fn kind_of(y: Body) -> u8
     ensures { λ r. ⌜ r ≡ kindOf y ⌝ }

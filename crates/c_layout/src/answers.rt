@@ -8,7 +8,7 @@ ghost use Rattle.page.specs.Outcomes.{meaning as judged};
 ghost use Rattle.recipe.specs.SpaceWrites.{meaning as wrote};
 ghost use Rattle.c_layout.specs.Replies.{verdictOf, wroteOf};
 ghost use Rattle.c_layout.specs.Inks.{pageCode, onPage};
-ghost use Rattle.c_layout.specs.Records.{doneOf};
+ghost use Rattle.c_records.specs.Records.{doneOf};
 use block::Reply;
 use inks::Which;
 use page::Verdict;

@@ -13,7 +13,7 @@ use Rattle.lexical.specs.Chars.{decimal}
 use Rattle.lexical.specs.Numbers.{none, numeric, afterOther, withDigit, withOther, withFigure, numberOf, scaleOf, millionths, fits, valueOf}
 use Rattle.lexical.specs.declared.types.Part.the-variants.{Sign, Digits, Decimals}
 use Rattle.lexical.specs.declared.types.Number.{Number}
-use Rattle.program.specs.Tokens.{Token, numT, other, tokenBy, named, wordToken}
+use Rattle.symbols.specs.Tokens.{Token, numT, other, tokenBy, named, wordToken}
 use Rattle.calculator.specs.Written.{digits, figures, numberText, Narrow}
 
 -- ---- one figure

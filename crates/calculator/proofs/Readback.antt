@@ -15,7 +15,7 @@ use Rattle.lexical.specs.Numbers.{withDigit, withOther, withFigure, afterOther,
 use Rattle.calculator.proofs.Tables.{at}
 use Rattle.stack.specs.Programs.{Sum, add, sub, mul, Test, equal, unequal, above, atLeast, below, atMost, Join, both, any, Two, sum, test, join, One, neg, abs, nay, Op, number, copy, index, roll, two, one, constant, pop, exch, dup, Code, done, act, when, either}
 use Rattle.stack.specs.Flat.{plainBy, twoBy, oneBy}
-use Rattle.program.specs.Tokens.{Token, opens, closes, ifT, ifelseT, copyT, indexT, rollT, numT, opT, other, bytes, tokenBy, named, sumNamed, testNamed, truthNamed, stackNamed, wordToken, braceToken, between, Mode, gap, comment, run, lexed, beforeZero, tokensOf}
+use Rattle.symbols.specs.Tokens.{Token, opens, closes, ifT, ifelseT, copyT, indexT, rollT, numT, opT, other, bytes, tokenBy, named, sumNamed, testNamed, truthNamed, stackNamed, wordToken, braceToken, between, Mode, gap, comment, run, lexed, beforeZero, tokensOf}
 use Rattle.program.specs.Parse.{State, whole, countZ, millions, parsed}
 use Rattle.program.specs.Spelling.{opTokens, spelled, written, Within}
 use Rattle.program.specs.Texts.{Read, program, unread, mostTokens, readBy, readTokens, readOf}

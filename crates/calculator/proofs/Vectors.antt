@@ -7,7 +7,7 @@ use Rattle.stack.specs.Programs.{roll, done, act}
 use Rattle.stack.specs.Operators.{acted}
 use Rattle.stack.specs.Judging.{judged, typed, fine, fits, wrong}
 use Rattle.program.specs.Parse.{State, whole, parsed, tokens, token, tokenAt, joined, countZ, spoiled}
-use Rattle.program.specs.Tokens.{opens, closes, numT, rollT}
+use Rattle.symbols.specs.Tokens.{opens, closes, numT, rollT}
 
 -- { 1 0.5 roll }: the second count is not whole, and judging refuses it (17); { 1 -1 roll } is fine; { 0.5 1 roll }, { 1 roll } and { roll } are 17
 abbrev rolled-by : ℤ → ℤ → State

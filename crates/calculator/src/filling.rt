@@ -3,7 +3,7 @@ ghost use mathlib.Core.Path.{_≡_};
 ghost use mathlib.Core.Bool.{false};
 ghost use Rattle.calculator.specs.Calculator.{tidy, filledRun};
 use crate::BLOCKS;
-use fixed::byte_at;
+use octets::byte_at;
 use record::ROOM;
 
 // Do only zeros follow a zero byte?

@@ -1,11 +1,11 @@
 // Cases of inks by name.
-use fixed::of_signed;
 use inks::Ink;
 use inks::Which;
 use inks::find;
 use inks::name_in;
 use inks::name_start;
 use libc::STDOUT_FILENO;
+use octets::of_signed;
 use text::say;
 use text::say_dotted;
 use text::say_size;

@@ -2,10 +2,10 @@
 use crate::asking::ink_case;
 use colour::evaluate;
 use designer_cases::text_case;
-use fixed::number_at;
-use fixed::of_signed;
 use lines::LONGEST;
 use lines::list;
+use octets::number_at;
+use octets::of_signed;
 use page::Verdict;
 use page::validate;
 use recipe::Written;

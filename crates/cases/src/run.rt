@@ -1,6 +1,6 @@
 // A case, which stands in a line.
 use crate::pages::page_case;
-use fixed::of_signed;
+use octets::of_signed;
 use small_cases::block_case;
 use small_cases::number_case;
 use small_cases::step_case;

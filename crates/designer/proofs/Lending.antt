@@ -11,16 +11,17 @@ use Rattle.fixed.specs.Bytes.{blocks}
 use Rattle.fixed.proofs.Decide.{and-left, and-right}
 use Rattle.lexer.specs.Scans.{Progress, longest, finished}
 use Rattle.reader.specs.Spaces.{Parser}
-use Rattle.reader.specs.Entries.{defaults}
+use Rattle.keys.specs.Entries.{defaults}
 use Rattle.reader.specs.Kept.{ring}
 use Rattle.reader.specs.Tokens.{took}
 use Rattle.reader.specs.Texts.{Answer, refusal, roomAfter, start, partOf, settled, concluded}
 use Rattle.tokens.specs.Sizes.{Sizes}
 use Rattle.states.specs.declared.types.State.{State}
 use Rattle.states.specs.Words.{stateIn}
-use Rattle.designer.specs.declared.types.Reply.{Reply}
-use Rattle.designer.specs.declared.types.Reply.the-variants.{Refused}
-use Rattle.designer.specs.State.{progressAt, replied, Ends}
+use Rattle.judging.specs.declared.types.Reply.{Reply}
+use Rattle.judging.specs.declared.types.Reply.the-variants.{Refused}
+use Rattle.judging.specs.Replies.{replied, Ends}
+use Rattle.designer.specs.State.{progressAt}
 use Rattle.designer.specs.Lent.{Memory, sized, isSized, progressIn, View, stands, foreign, viewOf, lentFault, begunView, partView, endView, answerOf}
 
 -- ---- the lengths

@@ -2,7 +2,6 @@
 mod ending;
 mod lent;
 mod reading;
-mod types;
 
 pub use lent::BLOCK_BYTES;
 pub use lent::BLOCKS;
@@ -14,4 +13,3 @@ pub use lent::WORDS;
 pub use lent::begin;
 pub use lent::end;
 pub use lent::part;
-pub use types::Reply;

@@ -1,7 +1,7 @@
 // Cases of designers' texts, read in parts.
 ghost use Prim.Native.Nat.{_≤_};
-use designer::Reply;
-use fixed::of_signed;
+use judging::Reply;
+use octets::of_signed;
 use small_cases::is_kept;
 use text::say;
 use text::say_dotted;

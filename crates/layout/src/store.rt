@@ -18,7 +18,7 @@ pub fn put_two(out: &mut [u8], at: usize, n: u32)
     requires { ⌜ at + 2 ≤ length (now out) ⌝ }
     ensures { λ _. ⌜ now (out .exit) ≡ puts (now (out .entry)) at (two n ∷ []) ⌝ }
 {
-    fixed::put_two(out, at, n);
+    octets::put_two(out, at, n);
 }
 
 // Stores a signed number of four bytes.
@@ -26,7 +26,7 @@ pub fn put_num(out: &mut [u8], at: usize, v: i32)
     requires { ⌜ at + 4 ≤ length (now out) ⌝ }
     ensures { λ _. ⌜ now (out .exit) ≡ puts (now (out .entry)) at (num v ∷ []) ⌝ }
 {
-    fixed::put_number(out, at, v);
+    octets::put_number(out, at, v);
 }
 
 // Stores the first n bytes of s.

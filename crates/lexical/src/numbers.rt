@@ -223,9 +223,9 @@ pub fn value_of(n: Number) -> i32
 {
     let m = millions(n);
     if n.minus & (m != 0) {
-        return fixed::to_signed((4294967296 - m) as u32);
+        return octets::to_signed((4294967296 - m) as u32);
     }
-    fixed::to_signed(m as u32)
+    octets::to_signed(m as u32)
 }
 
 // Whether a number is the whole number v, however fine it is written.

@@ -8,8 +8,8 @@ use Rattle.space.specs.Spaces.{countOf, wordsOf}
 use Rattle.space.specs.Pages.{spaceAt}
 use Rattle.page.specs.Outcomes.{accepted, refused}
 use Rattle.page.specs.Validation.{validated}
-use Rattle.lines.specs.Texts.{text}
-use Rattle.lines.specs.Digits.{digits, digitsIn}
+use Rattle.digits.specs.Texts.{text}
+use Rattle.digits.specs.Digits.{digits, digitsIn}
 use Rattle.lines.specs.Listing.{isSpace, familyOf, lineOf, lineAt, linesOf, acceptedText, refusedText, listing}
 
 pub one-gray : (page : List ℕ) → validated page ≡ accepted → length page / 512 ≡ 1 → countOf (spaceAt page 0) ≡ 1 → wordsOf (spaceAt page 0) ≡ 9 → kindNumbered page 0 ≡ 1

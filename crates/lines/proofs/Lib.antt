@@ -1,5 +1,3 @@
--- Laws that several proofs cite, and those of `digits` that say what it is.
-pub mod Digits
-pub mod Putting
+-- Laws that several proofs cite, and the paper's two examples.
 pub mod Lines
 pub mod Examples

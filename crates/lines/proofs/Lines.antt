@@ -12,11 +12,11 @@ use Rattle.space.specs.Spaces.{Space, countOf, wordsOf}
 use Rattle.space.specs.Pages.{spaceAt}
 use Rattle.page.specs.Outcomes.{Outcome}
 use Rattle.page.specs.Validation.{validated}
-use Rattle.lines.specs.Texts.{text, over}
-use Rattle.lines.specs.Digits.{digits}
+use Rattle.digits.specs.Texts.{text, over}
+use Rattle.digits.specs.Digits.{digits}
 use Rattle.lines.specs.Listing.{isSpace, familyOf, lineOf, lineAt, linesOf, listingBy, listing, longest}
-use Rattle.lines.specs.Puts.{Put}
-use Rattle.lines.proofs.Putting.{then, same, wider, sets-over}
+use Rattle.digits.specs.Puts.{Put}
+use Rattle.digits.proofs.Putting.{then, same, wider, sets-over}
 
 -- what is no other family is Separation
 pub last-family : (k : ℕ) → (k ≡ 1 → ⊥) → (k ≡ 2 → ⊥) → (k ≡ 3 → ⊥) → (k ≡ 4 → ⊥) → familyOf k ≡ text "Separation"

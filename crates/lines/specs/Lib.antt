@@ -1,4 +1,1 @@
-pub mod Texts
-pub mod Digits
 pub mod Listing
-pub mod Puts

@@ -11,8 +11,8 @@ use Rattle.space.specs.Spaces.{Space, countOf, wordsOf}
 use Rattle.space.specs.Pages.{spaceAt}
 use Rattle.page.specs.Outcomes.{Outcome, accepted, refused}
 use Rattle.page.specs.Validation.{validated}
-use Rattle.lines.specs.Texts.{text}
-use Rattle.lines.specs.Digits.{digits}
+use Rattle.digits.specs.Texts.{text}
+use Rattle.digits.specs.Digits.{digits}
 
 -- kinds 1 to 5 are spaces; 0 is a free block, 6 a palette's and 7 a program's
 unfoldable pub isSpace : ℕ → Bool
@@ -47,10 +47,6 @@ acceptedText page = text "blocks " ++ digits (length page / 512) ++ text "\n" ++
 -- a page that is refused
 unfoldable pub refusedText : ℕ → ℕ → List ℕ
 refusedText number block = text "refused " ++ digits number ++ text " block " ++ digits block ++ text "\n"
-
--- a designer's text that is refused, at a byte
-unfoldable pub unreadText : ℕ → ℕ → List ℕ
-unreadText number at = text "refused " ++ digits number ++ text " at " ++ digits at ++ text "\n"
 
 abbrev pub listingBy : Outcome → List ℕ → List ℕ
 listingBy accepted page = acceptedText page

@@ -6,17 +6,17 @@ ghost use lib.ListN.{length};
 ghost use Rattle.fixed.specs.Bytes.{blocks};
 ghost use Rattle.space.specs.Numbers.{kindNumbered};
 ghost use Rattle.space.specs.Pages.{spaceAt};
-ghost use Rattle.lines.specs.Texts.{text, over};
+ghost use Rattle.digits.specs.Texts.{text, over};
 ghost use Rattle.lines.specs.Listing.{isSpace, familyOf, lineOf, lineAt, linesOf, acceptedText, refusedText, listing, longest};
-ghost use Rattle.lines.specs.Puts.{Put};
-use crate::puts::put_column;
-use crate::puts::put_number;
-use crate::puts::put_text;
+ghost use Rattle.digits.specs.Puts.{Put};
+use digits::put_column;
+use digits::put_number;
+use digits::put_text;
 use page::Verdict;
 use page::validate;
 use space::components;
 use space::kind;
-use space::words;
+use tables::words;
 
 // Whether a block of this kind is a space: neither free, nor of a palette or a program.
 fn is_space(k: u32) -> bool

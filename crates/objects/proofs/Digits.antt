@@ -7,8 +7,8 @@ use native.Mathlib.Omega.{arith}
 use borrow.Author.Tests.{le-leb, lt-leb, leb-true}
 use lib.IntN.{ℤ, pos, negsuc, negℤ, natAbs}
 use lib.ListN.{length}
-use Rattle.lines.specs.Digits.{digit, digits, readAfter, Digit, AllDigits}
-use Rattle.lines.proofs.Digits.{digits-read, digits-decimal}
+use Rattle.digits.specs.Digits.{digit, digits, readAfter, Digit, AllDigits}
+use Rattle.digits.proofs.Digits.{digits-read, digits-decimal}
 use Rattle.lexical.specs.declared.types.Part.{Part}
 use Rattle.lexical.specs.declared.types.Part.the-variants.{Empty, Sign, Digits, Decimals}
 use Rattle.lexical.specs.declared.types.Number.{Number}

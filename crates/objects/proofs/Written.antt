@@ -9,8 +9,8 @@ use lib.Dec.{eqb, leb}
 use lib.IntN.{ℤ, pos, negsuc}
 use lib.ListN.{length, length-append}
 use Rattle.fixed.proofs.Decide.{and-left, and-right, cond-ind}
-use Rattle.lines.specs.Digits.{digits}
-use Rattle.lines.proofs.Digits.{digits-decimal}
+use Rattle.digits.specs.Digits.{digits}
+use Rattle.digits.proofs.Digits.{digits-decimal}
 use Rattle.lexical.specs.Chars.{regular, white, delimiter, hexByte}
 use Rattle.lexical.specs.Numbers.{none, withFigure}
 use Rattle.lexer.specs.Moves.{more}

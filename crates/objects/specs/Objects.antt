@@ -6,7 +6,7 @@ use mathlib.Core.List.{List, [], _∷_, _++_}
 use lib.Dec.{eqb, ltb, leb}
 use lib.IntN.{ℤ, pos, negsuc, natAbs}
 use lib.ListN.{length}
-use Rattle.lines.specs.Digits.{digit, digits}
+use Rattle.digits.specs.Digits.{digit, digits}
 use Rattle.lexical.specs.Chars.{regular}
 
 -- a name and a string, as their bytes; a number in millionths, and a whole number; [ ] << >>

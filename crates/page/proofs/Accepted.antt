@@ -19,7 +19,8 @@ use Rattle.record.specs.Rules.{wellLaid, wellFormed, lawful, supported}
 use Rattle.record.specs.declared.types.Body.{Body}
 use Rattle.record.specs.declared.types.Body.the-variants.{Free}
 use Rattle.page.specs.Outcomes.{Outcome, accepted, refused, andThen}
-use Rattle.page.specs.Validation.{wellSized, faultOne, faultTwo, faultClaimed, claimedAt, permitted, programFault, orElse, wellFilled, passes, validated}
+use Rattle.runs.specs.Runs.{claimedAt, permitted, programFault, wellFilled}
+use Rattle.page.specs.Validation.{wellSized, faultOne, faultTwo, faultClaimed, orElse, passes, validated}
 use Rattle.page.proofs.Sizes.{sized-whole, sized-most}
 
 -- a refusal is no acceptance

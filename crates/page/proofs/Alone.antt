@@ -17,7 +17,8 @@ use Rattle.record.specs.declared.types.Body.{Body}
 use Rattle.record.specs.declared.types.Body.the-variants.{Free, CalGray, CalRgb, Lab, Indexed, Separation, Palette, Program}
 use Rattle.record.proofs.Shapes.{formed-shaped}
 use Rattle.page.specs.Outcomes.{accepted}
-use Rattle.page.specs.Validation.{isAlternate, isBase, refersTo, permitted, validated}
+use Rattle.runs.specs.Runs.{isAlternate, isBase, refersTo, permitted}
+use Rattle.page.specs.Validation.{validated}
 use Rattle.page.proofs.Sizes.{sized-whole}
 use Rattle.page.proofs.Accepted.{well-sized, checked-at, formed-at, own-at, below-most, lawful-at, supported-at, permitted-at}
 use Rattle.page.proofs.Bytes.{ownBytes, checked-within, formed-within, own-within, body-within}

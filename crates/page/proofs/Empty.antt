@@ -15,7 +15,8 @@ use Rattle.record.specs.declared.types.Body.the-variants.{Free}
 use Rattle.space.specs.Spaces.{countOf, none}
 use Rattle.space.specs.Pages.{plainOf, tintedOf, spaceOf, spaceAt}
 use Rattle.page.specs.Outcomes.{accepted}
-use Rattle.page.specs.Validation.{wellSized, faultOne, permitted, claimedAt, programFault, wellFilled, faultClaimed, faultTwo, validated}
+use Rattle.runs.specs.Runs.{permitted, claimedAt, programFault, wellFilled}
+use Rattle.page.specs.Validation.{wellSized, faultOne, faultClaimed, faultTwo, validated}
 
 abbrev pub zeroPage : List ℕ
 zeroPage = replicate 512 0

@@ -27,9 +27,10 @@ use Rattle.space.specs.WellMade.{WellMade, rankOf}
 use Rattle.space.proofs.Levels.{numbered-ind, body-rank, plain-rank}
 use Rattle.space.proofs.Counts.{table-length, c0-length, c1-length}
 use Rattle.page.specs.Outcomes.{accepted}
-use Rattle.page.specs.Validation.{permitted, within, runFault, programFault, validated}
+use Rattle.runs.specs.Runs.{permitted, within, runFault, programFault}
+use Rattle.page.specs.Validation.{validated}
 use Rattle.page.proofs.Accepted.{Fair, fair-at}
-use Rattle.page.proofs.Permits.{alternate-some, base-some}
+use Rattle.runs.proofs.Within.{alternate-some, base-some}
 
 -- a space that is well made if it has components, and of a rank below r
 abbrev Sound : ℕ → Space → Type 0

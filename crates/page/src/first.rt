@@ -7,9 +7,9 @@ ghost use Rattle.fixed.specs.Loops.{firstFrom};
 ghost use Rattle.page.specs.Outcomes.{accepted, refused, meaning};
 ghost use Rattle.page.specs.Validation.{faultOne};
 use crate::Verdict;
-use record::is_checked;
-use record::is_well_formed;
 use record::own_at;
+use rules::is_well_formed;
+use sums::is_checked;
 
 // The refusal of block i that the first pass finds, or 0.
 fn fault_one(page: &[u8], i: u32) -> u32

@@ -21,7 +21,8 @@ use Rattle.cie.proofs.Facts.{one-float, gray-white, gray-black}
 use Rattle.space.specs.Spaces.{Space, calGray}
 use Rattle.space.specs.Pages.{plainOf, tintedOf, spaceOf, spaceAt}
 use Rattle.page.specs.Outcomes.{Outcome, accepted}
-use Rattle.page.specs.Validation.{wellSized, faultOne, permitted, programFault, claimedAt, wellFilled, faultClaimed, faultTwo, validated}
+use Rattle.runs.specs.Runs.{permitted, programFault, claimedAt, wellFilled}
+use Rattle.page.specs.Validation.{wellSized, faultOne, faultClaimed, faultTwo, validated}
 use Rattle.values.specs.Limits.{limitedTo}
 use Rattle.colour.specs.Colours.{valued, answered}
 use Rattle.colour.specs.Evaluating.{onAccepted, evaluated}

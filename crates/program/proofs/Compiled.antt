@@ -9,7 +9,7 @@ use lib.Dec.{ltb}
 use lib.ListN.{length, set, length-append}
 use Rattle.stack.specs.Programs.{Op, number, copy, index, Code, done, when, either}
 use Rattle.stack.specs.Flat.{wordsOf, flat}
-use Rattle.program.specs.Tokens.{Token, opens, closes, ifT, ifelseT, copyT, indexT, rollT, numT, opT, other}
+use Rattle.symbols.specs.Tokens.{Token, opens, closes, ifT, ifelseT, copyT, indexT, rollT, numT, opT, other}
 use Rattle.program.specs.Parse.{joined, ended, noPair, onePair, twoPairs, Held, nothing, last, lastTwo, Level, level, State, within, whole, start, bad, flushed, held, counted, rolledBy, closed, Count, counting, rolling, spoiled, tokenAt, token, tokens, parsed}
 use Rattle.program.specs.Words.{waiting, outerWords, stateWords, mark0, mark1, mark2, Outer, first, second, Words, going, ended!, begin, fails, flushW, heldW, countedW, rolledW, closedW, tokenW, outersOf, keptOf, tokenK, tokensK}
 use Rattle.program.proofs.Waiting.{op-words, open-words, close-words, if-words, ifelse-words}

@@ -18,7 +18,7 @@ use Rattle.stack.specs.Programs.{Op}
 use Rattle.stack.specs.Operators.{signedBy}
 use Rattle.stack.specs.Flat.{wordsOf, plainBy, twoBy, oneBy}
 use Rattle.program.specs.Parse.{Count, whole!, broken, countZ, counting, rolling, spoiled, Held, nothing, last, lastTwo, State, within, whole, start, bad, level, parsed}
-use Rattle.program.specs.Tokens.{Token, opens, closes, ifT, ifelseT, copyT, indexT, rollT, numT, opT, other, tokenBy}
+use Rattle.symbols.specs.Tokens.{Token, opens, closes, ifT, ifelseT, copyT, indexT, rollT, numT, opT, other, tokenBy}
 use Rattle.program.specs.Words.{mark0, mark1, mark2, Outer, first, second, Words, going, ended!, begin, fails, flushW, countedW, rolledW, heldW, closedW, tokenW, tokenK, tokensK, keptOf}
 use Rattle.program.proofs.Compiled.{compiled}
 use Rattle.program.specs.Kept.{heldBy, markBy, outerBy, outersBy, keeps, stateK, waitK, heldK, Grown, words, sixteen, wanted, wantedW}

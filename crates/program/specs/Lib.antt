@@ -1,7 +1,5 @@
-pub mod Tokens
 pub mod Parse
 pub mod Texts
 pub mod Spelling
 pub mod Words
-pub mod Lexing
 pub mod Kept

@@ -9,7 +9,7 @@ use lib.Dec.{ltb, eqb}
 use lib.ListN.{length}
 use Rattle.stack.specs.Programs.{Op, number, copy, index, roll, Code, done, act, when, either}
 use Rattle.stack.specs.Operators.{signedBy}
-use Rattle.program.specs.Tokens.{Token, opens, closes, ifT, ifelseT, copyT, indexT, rollT, numT, opT, other}
+use Rattle.symbols.specs.Tokens.{Token, opens, closes, ifT, ifelseT, copyT, indexT, rollT, numT, opT, other}
 
 -- a program and one part more
 unfoldable pub joined : Code → Code → Code

@@ -3,7 +3,7 @@ use Prim.Native.Nat.{ℕ, zero, suc}
 use mathlib.Core.List.{List, [], _∷_, _++_}
 use lib.IntN.{ℤ}
 use Rattle.stack.specs.Programs.{Op, number, copy, index, roll, two, one, constant, pop, exch, dup, Code, done, act, when, either}
-use Rattle.program.specs.Tokens.{Token, opens, closes, ifT, ifelseT, copyT, indexT, rollT, numT, opT}
+use Rattle.symbols.specs.Tokens.{Token, opens, closes, ifT, ifelseT, copyT, indexT, rollT, numT, opT}
 
 -- an operator; m n is the number that is written for the count n
 abbrev pub opTokens : (ℤ → ℤ) → Op → List Token

@@ -5,7 +5,7 @@ use mathlib.Core.List.{List}
 use lib.Dec.{leb}
 use lib.ListN.{length}
 use Rattle.stack.specs.Programs.{Code}
-use Rattle.program.specs.Tokens.{Token, tokensOf}
+use Rattle.symbols.specs.Tokens.{Token, tokensOf}
 use Rattle.program.specs.Parse.{State, within, whole, start, bad, countZ, parsed}
 
 -- the most tokens, braces counted

@@ -2,14 +2,14 @@
 ghost use mathlib.Core.Path.{_≡_};
 ghost use Prim.Native.Nat.{_≤_};
 ghost use lib.ListN.{length, take};
-ghost use Rattle.program.specs.Tokens.{gap, lexed, beforeZero};
+ghost use Rattle.symbols.specs.Tokens.{gap, lexed, beforeZero};
 ghost use Rattle.program.specs.Texts.{readTokens, readOf};
 ghost use Rattle.program.specs.Kept.{wanted, builtBy, sizeBy};
 use crate::TOKENS;
 use crate::kept::state;
-use crate::lexing::next;
 use crate::tokens::token;
 use crate::types::Built;
+use symbols::next;
 
 // The words of the program that the tokens of a text are, in the room lent.
 fn compile_text(text: &[u8], out: &mut [i32]) -> Built

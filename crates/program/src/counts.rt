@@ -17,7 +17,7 @@ use crate::types::Kept;
 use crate::words::flush;
 use crate::words::put;
 use crate::words::put_two;
-use stack::lowered;
+use fixed::lowered;
 use stack::size_of;
 
 // Are z millionths a whole number?

@@ -1,10 +1,8 @@
-// Calculator text (clause 7.10.5): its tokens, its program, and the words of the program's flat form.
+// Calculator text (clause 7.10.5): its program, and the words of the program's flat form.
 mod braces;
 mod compiling;
 mod counts;
 mod kept;
-mod lexing;
-mod naming;
 mod tokens;
 mod types;
 mod words;

@@ -5,7 +5,7 @@ ghost use mathlib.Core.Path.{_≡_};
 ghost use mathlib.Core.List.{List};
 ghost use Prim.Native.Nat.{ℕ, _≤_, _+_, _*_};
 ghost use lib.ListN.{take, length};
-ghost use Rattle.program.specs.Tokens.{tokenBy};
+ghost use Rattle.symbols.specs.Tokens.{tokenBy};
 ghost use Rattle.program.specs.Kept.{heldBy, outersBy, keeps, Room, Grown};
 ghost use Rattle.program.specs.Parse.{Held, countZ};
 ghost use Rattle.program.specs.Words.{mark0, mark1, mark2, tokenW, tokenK};

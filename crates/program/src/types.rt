@@ -1,13 +1,5 @@
 // What the functions of this crate hand to one another.
 
-// A token by its code, with its value where it is a number, and where to read on; or that there is none.
-pub struct Next {
-    pub found: bool,
-    pub code: usize,
-    pub value: i32,
-    pub at: usize,
-}
-
 // What the compiler keeps: how far it is, the words' count, the pairs that wait and where their jumps stand, how many pairs are open, the numbers held.
 pub struct Kept {
     pub s: usize,

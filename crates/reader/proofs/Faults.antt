@@ -9,7 +9,7 @@ use lib.Dec.{eqb, leb}
 use Rattle.fixed.proofs.Decide.{and-left, and-right}
 use Rattle.lexical.specs.declared.types.Number.{Number}
 use Rattle.lexical.specs.Numbers.{millionths, fits, wholeIn, exactly}
-use Rattle.reader.specs.Entries.{numberFault}
+use Rattle.keys.specs.Entries.{numberFault}
 
 faultless : (a f w : Bool) → _≡_ {A = ℕ} (cond a 12 (cond f (cond w 5 0) 13)) 0 → (f ≡ true) × (w ≡ false)
 faultless true f w h = absurd (omega arith)

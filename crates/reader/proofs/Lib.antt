@@ -1,7 +1,6 @@
 -- Laws that several proofs cite, here and in the crates above.
 pub mod Rings
 pub mod Rooms
-pub mod Masks
 pub mod Makings
 pub mod Meanings
 pub mod Faults

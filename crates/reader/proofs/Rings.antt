@@ -5,13 +5,13 @@ use mathlib.Core.List.{List, [], _∷_, _++_, append-assoc}
 use Prim.Native.Nat.{ℕ, zero, suc, _+_, _-_, _*_, _%_, _≤_, _<_}
 use native.Mathlib.Omega.{arith}
 use mathlib.Core.Logic.{_⊎_, inl, inr, ⊎-elim}
-use borrow.Author.Tests.{eq-eqb, ne-eqb, ltb-true, ltb-false}
-use lib.Dec.{ltb}
+use borrow.Author.Tests.{eq-eqb, ne-eqb}
 use lib.ListN.{length, getD, set, take, drop, length-drop, length-set, drop-of-length-le}
 use lib.Seq.{sets, sets-eq, take-add, take-at, drop-at, length-take-le, take-suc, getD-set-same, getD-set-other, drop-set-lt, drop-set-add, take-set-le, take-all}
 use Rattle.fixed.specs.Bytes.{blocks}
 use Rattle.fixed.proofs.Stores.{sets-append}
 use Rattle.lexical.specs.Names.{same}
+use Rattle.keys.proofs.Masks.{split}
 use Rattle.reader.specs.Spaces.{Frame, opened, named, nameOf, startOf}
 use Rattle.reader.specs.Kept.{ring, beforeSlot, afterSlot, nameAt, frameAt, framesAt}
 
@@ -54,14 +54,6 @@ unfolding framesAt
 take-frames marks names zero n x h = refl
 take-frames marks names (suc k) zero x h = absurd (omega arith)
 take-frames marks names (suc k) (suc n) x h = ap (λ (l : List Frame). frameAt marks names x ∷ l) (take-frames marks names k n (beforeSlot x) (omega arith))
-
--- one of two orders
-pub split : (a b : ℕ) → (a < b) ⊎ (b ≤ a)
-split a b = go (ltb a b) refl
-  where
-    go : (t : Bool) → ltb a b ≡ t → (a < b) ⊎ (b ≤ a)
-    go true e = inl (ltb-true a b e)
-    go false e = inr (ltb-false a b e)
 
 -- a store at the length of another name leaves a space
 module _ (marks names : List ℕ) (at y : ℕ) where

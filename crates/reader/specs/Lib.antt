@@ -1,5 +1,3 @@
-pub mod Names
-pub mod Entries
 pub mod Spaces
 pub mod Tokens
 pub mod Texts

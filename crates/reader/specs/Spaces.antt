@@ -15,7 +15,7 @@ use Rattle.record.specs.declared.types.Four.{Four}
 use Rattle.record.specs.declared.types.Body.{Body}
 use Rattle.record.specs.declared.types.Body.the-variants.{CalGray, CalRgb, Lab, Indexed, Separation, Palette}
 use Rattle.record.specs.declared.types.Record.{Record}
-use Rattle.page.specs.Validation.{runLength}
+use Rattle.runs.specs.Runs.{runLength}
 use Rattle.lexer.specs.Scans.{Word}
 use Rattle.reader.specs.declared.types.Want.{Want}
 use Rattle.reader.specs.declared.types.Entry.{Entry}

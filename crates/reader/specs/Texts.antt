@@ -11,7 +11,7 @@ use Rattle.lexer.specs.Scans.{Scan, Progress, going, stopped, fed, finished}
 use Rattle.lexer.specs.Scans as scans
 use Rattle.reader.specs.declared.types.Want.{Want}
 use Rattle.reader.specs.declared.types.Want.the-variants.{Top, Family, Dict, Key, Value, Items, Shut, Space, Hival, Lookup, Ink}
-use Rattle.reader.specs.Entries.{defaults}
+use Rattle.keys.specs.Entries.{defaults}
 use Rattle.reader.specs.Spaces.{Parser, with}
 use Rattle.reader.specs.Tokens.{took}
 

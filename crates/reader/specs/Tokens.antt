@@ -16,8 +16,8 @@ use Rattle.reader.specs.declared.types.Want.{Want}
 use Rattle.reader.specs.declared.types.Want.the-variants.{Top, Family, Dict, Key, Value, Items, Shut, Space, Hival, Lookup, Ink}
 use Rattle.reader.specs.declared.types.Entry.{Entry}
 use Rattle.reader.specs.declared.types.Inner.{Inner}
-use Rattle.reader.specs.Names.{familyNamed, deviceNamed, keyNamed}
-use Rattle.reader.specs.Entries.{keyOf, lengthOf, metIn, complete, numberFault, placeOf, defaults}
+use Rattle.keys.specs.Names.{familyNamed, deviceNamed, keyNamed}
+use Rattle.keys.specs.Entries.{keyOf, lengthOf, metIn, complete, numberFault, placeOf, defaults}
 use Rattle.reader.specs.Spaces.{Parser, Made, with, opened, named, around, nameOf, paletteSize, runBlocks, madeWith}
 
 -- the sorts of token; a keyword is none of these, and is always 12

@@ -1,10 +1,8 @@
 // The reader of a designer's text: tokens to records.
 pub mod dictionary;
-pub mod entries;
 pub mod frames;
 pub mod heads;
 pub mod making;
-pub mod names;
 pub mod opening;
 mod types;
 

@@ -16,11 +16,11 @@ use crate::heads::with_frames;
 use crate::heads::with_inner;
 use crate::heads::with_kind;
 use crate::making::held;
-use crate::names;
 use crate::types::Head;
 use crate::types::Inner;
 use crate::types::Took;
 use crate::types::Want;
+use keys::names;
 use lexer::Lexer;
 
 // `[` where a space may stand.

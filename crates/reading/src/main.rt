@@ -2,7 +2,7 @@
 // standard error.
 //
 //     refused 12 at 40
-use designer::Reply;
+use judging::Reply;
 use libc::STDERR_FILENO;
 use libc::STDIN_FILENO;
 use libc::STDOUT_FILENO;
@@ -45,7 +45,7 @@ fn read_text(
 
 fn write_refusal(number: u32, at: u32) {
     let mut line = [0u8; 64];
-    let k = lines::refused_at(number, at, &mut line);
+    let k = digits::refused_at(number, at, &mut line);
     io::write_all(STDERR_FILENO, &line[..k]);
 }
 

@@ -18,7 +18,7 @@ use Rattle.space.specs.declared.nesting.Level.{Level}
 use Rattle.space.proofs.Levels.{level-space, space-ind, by-rank}
 use Rattle.space.proofs.Counts.{count-high, table-length, c0-length, c1-length}
 use Rattle.runner.specs.Runs.{longest}
-use Rattle.recipe.specs.Recipes.{limitsOf, stepsOf, recipeOf}
+use Rattle.parts.specs.Recipes.{limitsOf, stepsOf, recipeOf}
 
 -- ---- Document 01's lengths
 

@@ -12,7 +12,7 @@ use Rattle.page.specs.Outcomes.{accepted, refused}
 use Rattle.page.specs.Validation.{validated}
 use Rattle.space.specs.Spaces.{Space, countOf}
 use Rattle.space.specs.Pages.{spaceAt}
-use Rattle.recipe.specs.Recipes.{stepsOf, recipeOf}
+use Rattle.parts.specs.Recipes.{stepsOf, recipeOf}
 use Rattle.recipe.specs.SpaceWrites.{Reply, wrote, refusal, replied, wordsAfter}
 use Rattle.recipe.specs.PageWrites.{writeReply, writeWords}
 

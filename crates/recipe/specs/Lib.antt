@@ -1,4 +1,2 @@
-pub mod Recipes
 pub mod SpaceWrites
-pub mod Parts
 pub mod PageWrites

@@ -6,7 +6,7 @@ use lib.IntN.{ℤ}
 use lib.Dec.{eqb, leb}
 use lib.ListN.{length, drop}
 use Rattle.space.specs.Spaces.{Space, countOf}
-use Rattle.recipe.specs.Recipes.{recipeOf}
+use Rattle.parts.specs.Recipes.{recipeOf}
 use Rattle.recipe.specs.declared.Written.{Written}
 use Rattle.recipe.specs.declared.Written.the-variants.{Words, Refused}
 

@@ -1,8 +1,5 @@
 // The recipe of a space on a page: the page validated, the recipe's length, which is tested first, and its words.
-mod closings;
 mod pages;
-mod parts;
-mod stores;
 mod writing;
 
 pub use pages::write;

@@ -5,20 +5,20 @@ ghost use lib.ListN.{length};
 ghost use lib.Seq.{sets};
 ghost use Rattle.space.specs.Pages.{spaceAt};
 ghost use Rattle.space.specs.Levels.{spaceIn};
-ghost use Rattle.recipe.specs.Recipes.{stepsOf};
+ghost use Rattle.parts.specs.Recipes.{stepsOf};
 ghost use Rattle.recipe.specs.SpaceWrites.{meaning, replied, wordsAfter};
 use crate::Written;
-use crate::parts::put_ends;
-use crate::parts::put_program;
-use crate::parts::put_row;
-use crate::parts::put_tint;
-use crate::stores::word_of;
+use parts::put_ends;
+use parts::put_program;
+use parts::put_row;
+use parts::put_tint;
+use parts::word_of;
 use space::Level;
 use space::count;
 use space::level_at;
 use space::plain_at;
 use space::tinted_at;
-use space::words_in;
+use tables::words_in;
 
 // The steps of a level's space, from `at` on. It calls itself on the level within, whose rank is lower.
 fn put_steps(page: &[u8], l: Level, words: &mut [i32], at: usize)

@@ -1,5 +1,4 @@
 -- Laws that several proofs cite, here and in the crates above.
-pub mod Sums
 pub mod Runs
 pub mod Fours
 pub mod Ranges

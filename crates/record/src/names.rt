@@ -3,7 +3,7 @@ ghost use mathlib.Core.Path.{_≡_};
 ghost use Rattle.fixed.specs.Bytes.{blockAt};
 ghost use Rattle.record.specs.Reading.{nameIs};
 use crate::types::NAME_FROM;
-use fixed::byte_at;
+use octets::byte_at;
 
 // Whether the name of block n is exactly this one.
 pub fn is_name(page: &[u8], n: u32, name: &[u8]) -> bool

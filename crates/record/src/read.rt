@@ -17,11 +17,11 @@ use crate::types::Ranges;
 use crate::types::Record;
 use crate::types::Separation;
 use crate::types::Triple;
-use fixed::byte_at;
-use fixed::byte_in;
-use fixed::number_in;
-use fixed::two_at;
-use fixed::two_in;
+use octets::byte_at;
+use octets::byte_in;
+use octets::number_in;
+use octets::two_at;
+use octets::two_in;
 
 // These read the part of a page from byte `start` on, where a block stands whole.
 fn triple_in(page: &[u8], start: usize, at: usize) -> Triple

@@ -14,7 +14,7 @@ use Rattle.record.specs.declared.types.Record.{Record}
 use Rattle.block.specs.Single.{Outcome, done, refused, outcomeOf, writeNumber, writeOut, readNumber, readFound}
 use Rattle.block.proofs.Exits.{done-zero, refused-number, found-done}
 use Rattle.sktelbaan_runner.specs.Replies.{inHalves}
-use Rattle.c_layout.specs.Records.{recordLike, recordOf, numbersOf, doneOf, putNumber, putBlock, gotNumbers, gotBytes}
+use Rattle.c_records.specs.Records.{recordLike, recordOf, numbersOf, doneOf, putNumber, putBlock, gotNumbers, gotBytes}
 
 -- an outcome's reply is its number
 done-number : (n : ℕ) → doneOf (outcomeOf n) ≡ inHalves n 0

@@ -29,7 +29,7 @@ use Rattle.record.specs.declared.types.Record.{Record}
 use Rattle.block.specs.Single.{readNumber}
 use Rattle.block.proofs.Blocks.{fits-at}
 use Rattle.block.proofs.RoundTrips.{accepted, read-of-write, write-of-read}
-use Rattle.c_layout.specs.Records.{small, oneOf, twoOf, bodyOf, recordOf, bodyNumbers, headed, numbersOf, namedCount, zeroFrom, recordLike, putNumber, putBlock, gotNumbers, gotBytes}
+use Rattle.c_records.specs.Records.{small, oneOf, twoOf, bodyOf, recordOf, bodyNumbers, headed, numbersOf, namedCount, zeroFrom, recordLike, putNumber, putBlock, gotNumbers, gotBytes}
 use Rattle.sktelbaan.specs.RoundTrips.{Passed, Reads, Writes, RoundTrips}
 
 padded-self : (s : List ℕ) → padded (length s) s ≡ s

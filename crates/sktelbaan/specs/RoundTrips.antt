@@ -9,7 +9,7 @@ use mir.Val.{SFits}
 use Rattle.fixed.specs.Values.{value}
 use Rattle.layout.specs.Field.{Bytes}
 use Rattle.block.specs.Single.{readNumber}
-use Rattle.c_layout.specs.Records.{putNumber, putBlock, gotNumbers, gotBytes}
+use Rattle.c_records.specs.Records.{putNumber, putBlock, gotNumbers, gotBytes}
 
 -- what C has of a record: 20 signed 32-bit numbers and 504 bytes
 pub record Passed (numbers : List ℤ) (bytes : List ℕ) : Type 0 where

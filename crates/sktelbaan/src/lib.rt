@@ -9,12 +9,12 @@ ghost use Rattle.runner.specs.Runs.{ran};
 ghost use lib.ListN.{length};
 ghost use Rattle.block.specs.Single.{readNumber};
 ghost use Rattle.reader.specs.Texts.{roomAfter};
-ghost use Rattle.designer.specs.State.{replied};
+ghost use Rattle.judging.specs.Replies.{replied};
 ghost use Rattle.designer.specs.Lent.{memory, lentFault, viewOf, begunView, partView, endView, answerOf};
 ghost use Rattle.sktelbaan_runner.specs.Replies.{inHalves, replyOf, floatsOf};
 ghost use Rattle.c_layout.specs.Replies.{verdictOf, wroteOf};
 ghost use Rattle.c_layout.specs.Inks.{inkOf, placeOf};
-ghost use Rattle.c_layout.specs.Records.{putNumber, putBlock, gotNumbers, gotBytes};
+ghost use Rattle.c_records.specs.Records.{putNumber, putBlock, gotNumbers, gotBytes};
 ghost use Rattle.sktelbaan.specs.Replies.{pageOf};
 
 mod texts;
@@ -78,10 +78,10 @@ pub extern "C" fn sktelbaan_write_block(
     if block.len() != 512 {
         return halves(10, 0);
     }
-    if !c_layout::is_record_like(numbers) {
+    if !c_records::is_record_like(numbers) {
         return halves(3, 0);
     }
-    c_layout::done(block::write(c_layout::record_of(numbers, bytes), block))
+    c_layout::done(block::write(c_records::record_of(numbers, bytes), block))
 }
 
 // Reads the record of a block of 512 bytes. The reply gives nothing; on a refusal the numbers and the bytes stay as they were.
@@ -101,7 +101,7 @@ pub extern "C" fn sktelbaan_read_block(
         Reply::Done => {
             let r = a.found;
             let y = r.body;
-            let v = c_layout::numbers_of(r.own, y);
+            let v = c_records::numbers_of(r.own, y);
             let s = r.bytes;
             *numbers = v;
             *bytes = s;

@@ -1,7 +1,7 @@
 // What the end of a designer's text comes to, as a reply.
 ghost use mathlib.Core.Path.{_≡_};
 ghost use Rattle.sktelbaan.specs.Replies.{pageOf};
-use designer::Reply;
+use judging::Reply;
 use sktelbaan_runner::halves;
 
 // How many blocks its page has, or the refusal with its byte.

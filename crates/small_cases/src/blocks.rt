@@ -2,7 +2,7 @@
 use block::Reply;
 use block::read;
 use block::write;
-use fixed::of_signed;
+use octets::of_signed;
 use record::Body;
 use record::CalGray;
 use record::CalRgb;

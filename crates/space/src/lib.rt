@@ -1,20 +1,15 @@
 // What a number on a page is: the kind of its space, its components and their ranges, the space within, and the numbers of its record. A level of a space is
 // read once, and the rest is asked of that. Nothing here asks that the page was validated: a byte past the page is 0, and a number that is no space's has no
 // components.
-mod lengths;
 mod nesting;
 mod numbers;
-mod palette;
 mod ranges;
 
-pub use lengths::words;
-pub use lengths::words_in;
 pub use nesting::Level;
 pub use nesting::level_at;
 pub use nesting::plain_at;
 pub use nesting::tinted_at;
 pub use numbers::kind;
-pub use palette::entry;
 pub use ranges::components;
 pub use ranges::count;
 pub use ranges::highs;

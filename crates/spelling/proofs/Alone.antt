@@ -23,7 +23,8 @@ use Rattle.record.proofs.Shapes.{formed-shaped}
 use Rattle.block.proofs.Blocks.{Read, read-at}
 use Rattle.space.specs.Pages.{deviceOf}
 use Rattle.page.specs.Outcomes.{accepted}
-use Rattle.page.specs.Validation.{wellSized, faultOne, refersTo, permitted, within, programFault, usedEntries, claimedAt, wellFilled, faultClaimed, faultTwo, validated}
+use Rattle.runs.specs.Runs.{refersTo, permitted, within, programFault, usedEntries, claimedAt, wellFilled}
+use Rattle.page.specs.Validation.{wellSized, faultOne, faultClaimed, faultTwo, validated}
 use Rattle.page.proofs.Accepted.{accepted-where}
 use Rattle.reader.specs.Texts.{textOf, page}
 use Rattle.objects.specs.Objects.{each}

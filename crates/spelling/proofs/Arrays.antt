@@ -19,8 +19,8 @@ use Rattle.reader.specs.declared.types.Want.{Want}
 use Rattle.reader.specs.declared.types.Want.the-variants.{Top, Family, Dict, Key, Shut, Space as Inside}
 use Rattle.reader.specs.declared.types.Entry.{Entry}
 use Rattle.reader.specs.declared.types.Inner.{Inner}
-use Rattle.reader.specs.Names.{familyNamed}
-use Rattle.reader.specs.Entries.{complete, defaults}
+use Rattle.keys.specs.Names.{familyNamed}
+use Rattle.keys.specs.Entries.{complete, defaults}
 use Rattle.reader.specs.Spaces.{Parser, Frame, Made, with, opened, nameOf, runBlocks, madeWith}
 use Rattle.reader.specs.Tokens as tokens
 use Rattle.reader.specs.Tokens.{took, tookBy, sortOf, tookTop, tookSpace, tookFamily, ofFamily, wantedBy, tookDict, tookKey, tookEnd, tookShut, closed, resumes, resumed, outside}

@@ -19,8 +19,8 @@ use Rattle.objects.proofs.Written.{readScan}
 use Rattle.reader.specs.declared.types.Want.the-variants.{Key, Value, Items}
 use Rattle.reader.specs.declared.types.Entry.{Entry}
 use Rattle.reader.specs.declared.types.Inner.{Inner}
-use Rattle.reader.specs.Names.{keyNamed}
-use Rattle.reader.specs.Entries.{keyOf, lengthOf, metIn, numberFault, placeOf}
+use Rattle.keys.specs.Names.{keyNamed}
+use Rattle.keys.specs.Entries.{keyOf, lengthOf, metIn, numberFault, placeOf}
 use Rattle.reader.specs.Spaces.{Parser, Frame, Made, with}
 use Rattle.reader.specs.Tokens.{took, tookBy, sortOf, tookKey, tookName, keyed, tookValue, tookItems, tookNumber, valued}
 use Rattle.spelling.specs.Spaces.{numbers, entry, AllSmall}

@@ -9,7 +9,7 @@ use lib.ListN.{length}
 use Rattle.fixed.specs.Bytes.{blocks}
 use Rattle.record.specs.Layout.{blockOf}
 use Rattle.record.specs.declared.types.Body.the-variants.{Indexed}
-use Rattle.page.specs.Validation.{runLength}
+use Rattle.runs.specs.Runs.{runLength}
 use Rattle.lexer.specs.Scans.{Word, takes}
 use Rattle.lexer.specs.declared.types.Token.the-variants.{RegularToken, StringToken}
 use Rattle.objects.specs.Objects.{name, text, whole, opens, each}
@@ -20,7 +20,7 @@ use Rattle.reader.specs.declared.types.Want.the-variants.{Shut, Hival, Lookup, 
 use Rattle.reader.specs.declared.types.Entry.{Entry}
 use Rattle.reader.specs.declared.types.Inner.{Inner}
 use Rattle.lexical.specs.Names.{same}
-use Rattle.reader.specs.Names.{familyNamed}
+use Rattle.keys.specs.Names.{familyNamed}
 use Rattle.reader.specs.Spaces.{Parser, Frame, Made, with, around, nameOf, bodyOf, recordOf, runOf, runBlocks, madeWith}
 use Rattle.reader.specs.Tokens.{took, tookBy, sortOf, wantedBy, closed, countOf, resumes, resumed, outside, tookHival, withHival, tookLookup}
 use Rattle.spelling.specs.Names.{theIndexed}

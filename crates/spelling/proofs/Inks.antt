@@ -25,8 +25,8 @@ use Rattle.reader.specs.declared.types.Want.the-variants.{Dict, Key, Value, Shu
 use Rattle.reader.specs.declared.types.Entry.{Entry}
 use Rattle.reader.specs.declared.types.Inner.{Inner}
 use Rattle.lexical.specs.Names.{same}
-use Rattle.reader.specs.Names.{familyNamed, keyNamed}
-use Rattle.reader.specs.Entries.{one, hundred, keyOf, lengthOf, metIn, complete, numberFault, placeOf, defaults}
+use Rattle.keys.specs.Names.{familyNamed, keyNamed}
+use Rattle.keys.specs.Entries.{one, hundred, keyOf, lengthOf, metIn, complete, numberFault, placeOf, defaults}
 use Rattle.reader.specs.Spaces.{Parser, Frame, Made, with, named, around, nameOf, bodyOf, recordOf, runOf, runBlocks, madeWith}
 use Rattle.reader.specs.Tokens.{took, tookBy, sortOf, wantedBy, tookKey, tookName, keyed, tookValue, tookItems, tookNumber, valued, closed, countOf, resumes, resumed, outside, tookDict, tookInk, inked}
 use Rattle.reader.specs.Tokens as tokens

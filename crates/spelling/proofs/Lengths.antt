@@ -8,8 +8,8 @@ use borrow.Author.Tests.{leb-true}
 use lib.IntN.{ℤ, pos, negsuc}
 use lib.ListN.{length, length-append}
 use Rattle.fixed.proofs.Decide.{cond-ind}
-use Rattle.lines.specs.Digits.{digits}
-use Rattle.lines.proofs.Digits.{digits-short}
+use Rattle.digits.specs.Digits.{digits}
+use Rattle.digits.proofs.Digits.{digits-short}
 use Rattle.objects.specs.Objects.{Object, name, text, number, whole, opens, closes, begins, ends, each, pair, plain, nameByte, lastDigits, decimal, bare, written, small, writable}
 use Rattle.objects.proofs.Written.{AllWritable, no-more, _&_}
 use Rattle.spelling.specs.Names.{theFunctionType, theDomain, theC0, theC1, theN}

@@ -24,8 +24,8 @@ use Rattle.reader.specs.declared.types.Want.the-variants.{Dict, Key, Value}
 use Rattle.reader.specs.declared.types.Entry.{Entry}
 use Rattle.reader.specs.declared.types.Inner.{Inner}
 use Rattle.lexical.specs.Names.{same}
-use Rattle.reader.specs.Names.{familyNamed, keyNamed}
-use Rattle.reader.specs.Entries.{keyOf, lengthOf, metIn, complete, numberFault, placeOf, defaults}
+use Rattle.keys.specs.Names.{familyNamed, keyNamed}
+use Rattle.keys.specs.Entries.{keyOf, lengthOf, metIn, complete, numberFault, placeOf, defaults}
 use Rattle.reader.specs.Spaces.{Parser, Frame, Made, with, around, nameOf, bodyOf, recordOf, runOf, runBlocks, madeWith}
 use Rattle.reader.specs.Tokens.{took, tookBy, sortOf, wantedBy, tookKey, tookName, keyed, tookValue, tookNumber, valued, closed, countOf}
 use Rattle.spelling.specs.Names.{theCalGray, theCalRgb, theLab, theWhitePoint, theBlackPoint, theGamma, theMatrix, theRange}

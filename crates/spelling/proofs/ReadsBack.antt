@@ -12,7 +12,8 @@ use Rattle.record.specs.Layout.{check, headOf, blockOf}
 use Rattle.record.specs.declared.types.Record.{Record}
 use Rattle.block.proofs.Blocks.{head-length}
 use Rattle.page.specs.Outcomes.{accepted}
-use Rattle.page.specs.Validation.{runLength, validated}
+use Rattle.runs.specs.Runs.{runLength}
+use Rattle.page.specs.Validation.{validated}
 use Rattle.page.proofs.Accepted.{well-sized}
 use Rattle.page.proofs.Sizes.{sized-some, sized-most}
 use Rattle.lexer.specs.Scans.{Progress, going, bound, after, handed, fed, finished}

@@ -26,7 +26,7 @@ use Rattle.record.specs.declared.types.Four.{Four}
 use Rattle.record.specs.declared.types.Body.{Body}
 use Rattle.record.specs.declared.types.Body.the-variants.{Free, CalGray, CalRgb, Lab, Indexed, Separation, Palette, Program}
 use Rattle.record.specs.declared.types.Record.{Record}
-use Rattle.page.specs.Validation.{runLength, unusedZero}
+use Rattle.runs.specs.Runs.{runLength, unusedZero}
 use Rattle.objects.specs.Objects.{small, bytesFrom}
 use Rattle.spelling.specs.Spaces.{Space, device, deviceGray, deviceRgb, deviceCmyk, calGray, calRgb, lab, indexed, separation, componentsOf, recordsOf, palettes, three, four, nine, fourOf, AllSmall, Fitting}
 use Rattle.spelling.specs.Records.{spaceBy, spaceOf, Suits, recordsBefore, recordsAfter}

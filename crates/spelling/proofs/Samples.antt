@@ -13,12 +13,13 @@ use Rattle.record.specs.Layout.{headOf, plain, weighed, checked, blockOf}
 use Rattle.record.specs.Reading.{bodyBy, nameIs}
 use Rattle.record.specs.Rules.{wellLaid, nameShown, wellFormed, lawful, supported, whitePoint, blackPoint, ordered, noneZero, nameFits, paletteEnds, entriesEnd}
 use Rattle.record.specs.declared.types.Triple.{Triple}
-use Rattle.lines.specs.Digits.{digitsIn, digits}
+use Rattle.digits.specs.Digits.{digitsIn, digits}
 use Rattle.lexical.specs.Chars.{white, delimiter, regular}
 use Rattle.objects.specs.Objects.{nameByte, lastDigits, decimal, bare}
 use Rattle.space.specs.Pages.{deviceOf, plainOf, inkOf, tintedOf}
 use Rattle.page.specs.Outcomes.{accepted}
-use Rattle.page.specs.Validation.{wellSized, faultOne, refersTo, permitted, within, palettes, runFilled, programFault, usedEntries, unusedZero, paletteClaimed, claimedAfter, claimedAt, wellFilled, faultClaimed, faultTwo, validated}
+use Rattle.runs.specs.Runs.{refersTo, permitted, within, palettes, runFilled, programFault, usedEntries, unusedZero, paletteClaimed, claimedAfter, claimedAt, wellFilled}
+use Rattle.page.specs.Validation.{wellSized, faultOne, faultClaimed, faultTwo, validated}
 use Rattle.reader.specs.Texts.{textOf, page}
 use Rattle.spelling.specs.Spaces.{Space, device, deviceRgb, deviceCmyk, calGray, calRgb, lab, indexed, separation, allBlocks, InkFits, Fitting, AllFitting, spelled, pageOf}
 use Rattle.spelling.proofs.ReadsBack.{page-length, reads-back}

@@ -24,7 +24,7 @@ use Rattle.reader.specs.declared.types.Want.the-variants.{Top, Space as Inside}
 use Rattle.reader.specs.declared.types.Entry.{Entry}
 use Rattle.reader.specs.declared.types.Inner.{Inner}
 use Rattle.lexical.specs.Names.{same}
-use Rattle.reader.specs.Names.{deviceNamed}
+use Rattle.keys.specs.Names.{deviceNamed}
 use Rattle.reader.specs.Spaces.{Parser, Frame, Made, with, nameOf}
 use Rattle.reader.specs.Tokens.{took, tookBy, sortOf, tookSpace, resumes, resumed, outside}
 use Rattle.reader.specs.Tokens as tokens

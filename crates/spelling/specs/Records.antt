@@ -12,7 +12,7 @@ use Rattle.record.specs.Fits.{Fits}
 use Rattle.record.specs.declared.types.Body.{Body}
 use Rattle.record.specs.declared.types.Body.the-variants.{Free, CalGray, CalRgb, Lab, Indexed, Separation, Palette, Program}
 use Rattle.record.specs.declared.types.Record.{Record}
-use Rattle.page.specs.Validation.{runLength, unusedZero}
+use Rattle.runs.specs.Runs.{runLength, unusedZero}
 use Rattle.reader.specs.Texts.{textOf, page}
 use Rattle.objects.specs.Objects.{bytesFrom}
 use Rattle.spelling.specs.Spaces.{Device, Space, device, calGray, calRgb, lab, indexed, separation, componentsOf, blocksOf, codeOf, recordsOf, palettes, Fitting, spelled}

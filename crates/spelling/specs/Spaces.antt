@@ -18,7 +18,7 @@ use Rattle.record.specs.declared.types.Lab.{Lab as LabSpace}
 use Rattle.record.specs.declared.types.Body.{Body}
 use Rattle.record.specs.declared.types.Body.the-variants.{CalGray, CalRgb, Lab, Indexed, Separation, Palette}
 use Rattle.record.specs.declared.types.Record.{Record}
-use Rattle.page.specs.Validation.{runLength}
+use Rattle.runs.specs.Runs.{runLength}
 use Rattle.objects.specs.Objects.{Object, name, text, number, whole, opens, closes, begins, ends, each, written, bytesFrom, small}
 use Rattle.spelling.specs.Names.{theCalGray, theCalRgb, theLab, theIndexed, theSeparation, theDeviceGray, theDeviceRgb, theDeviceCmyk, theWhitePoint, theBlackPoint, theGamma, theMatrix, theRange, theFunctionType, theDomain, theC0, theC1, theN}
 

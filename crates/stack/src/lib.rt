@@ -12,7 +12,6 @@ pub use acting::act;
 pub use items::code;
 pub use items::size;
 pub use items::small;
-pub use numbers::lowered;
 pub use numbers::size_of;
 pub use operators::one_kind;
 pub use operators::takes;

@@ -2,26 +2,13 @@
 //
 // They are over numbers raised by 2^31, which are never negative.
 ghost use mathlib.Core.Path.{_≡_};
-ghost use Prim.Native.Nat.{_≤_, _<_, _^_};
+ghost use Prim.Native.Nat.{_≤_};
 ghost use lib.IntN.{subℕ, negℤ, natAbs};
 ghost use Rattle.fixed.specs.Numbers.{halfUp};
 ghost use Rattle.stack.specs.Programs.{add, sub, mul, abs};
 ghost use Rattle.stack.specs.Operators.{fitted, signedBy, sumOf, oneOf};
-
-// v + 2^31.
-fn raised(v: i32) -> u64
-    ensures { λ r. ⌜ (r < 2 ^ 32) × (v ≡ subℕ r (2 ^ 31)) ⌝ }
-{
-    (v as i64 + 2147483648) as u64
-}
-
-// u - 2^31.
-pub fn lowered(u: u64) -> i32
-    requires { ⌜ u < 2 ^ 32 ⌝ }
-    ensures { λ r. ⌜ r ≡ subℕ u (2 ^ 31) ⌝ }
-{
-    (u as i64 - 2147483648) as i32
-}
+use fixed::lowered;
+use fixed::raised;
 
 // The nearest to q - k that fits 32 bits.
 fn fit(q: u64, k: u64) -> i32

@@ -1,8 +1,8 @@
 // Numbers and bytes, read off a text. Nothing is refused: what is no number is 0.
 ghost use Prim.Native.Nat.{_≤_, _-_};
 ghost use lib.ListN.{length};
-use fixed::to_signed;
 use libc::STDIN_FILENO;
+use octets::to_signed;
 
 // A number, and the place after it.
 pub struct Number {

@@ -2,8 +2,8 @@
 use cie::Answer;
 use cie::Answered;
 use cie::Xyz;
-use fixed::of_signed;
 use libc::STDOUT_FILENO;
+use octets::of_signed;
 
 // Writes text.
 pub fn say(s: &[u8]) {

@@ -12,9 +12,9 @@ use fixed::index_of;
 use fixed::over_one;
 use space::Level;
 use space::count;
-use space::entry;
 use space::highs;
 use space::lows;
+use tables::entry;
 
 // The m entries of a row of the table of the Indexed block n, over a space of m components, whose ranges are from lo to hi; `table` has the values over 0..1.
 fn fill_row(

@@ -4,7 +4,8 @@ use mathlib.Core.Path.{sym, _∙_}
 use mathlib.Core.Bool.{_&&_}
 use lib.Dec.{leb}
 use lib.ListN.{length}
-use Rattle.designer.proofs.Endings.{ends-refused, ends-same, concluded-refused, concluded-unfinished, concluded-short, concluded-judged}
+use Rattle.judging.proofs.Judged.{ends-refused, ends-same}
+use Rattle.designer.proofs.Endings.{concluded-refused, concluded-unfinished, concluded-short, concluded-judged}
 use borrow.Author.Needs.{needs}
 use Rattle.designer.proofs.ending.conclude.Statement.{statement}
 use Rattle.designer.proofs.ending.conclude.Tie as tie

@@ -2,7 +2,7 @@
 use mathlib.Core.List.{append-assoc}
 use native.Mathlib.Omega.{arith}
 use Rattle.lines.specs.Listing.{acceptedText, longest}
-use Rattle.lines.proofs.Putting.{then, same, wider}
+use Rattle.digits.proofs.Putting.{then, same, wider}
 use borrow.Author.Needs.{needs}
 use Rattle.lines.proofs.listing.put_accepted.Statement.{statement}
 use Rattle.lines.proofs.listing.put_accepted.Tie as tie

@@ -1,6 +1,6 @@
 -- `put_block`: the block's line, or nothing, by its kind.
 use native.Mathlib.Omega.{arith}
-use Rattle.lines.proofs.Putting.{same, wider, nothing}
+use Rattle.digits.proofs.Putting.{same, wider, nothing}
 use Rattle.lines.proofs.Lines.{space-line, no-line}
 use borrow.Author.Needs.{needs}
 use Rattle.lines.proofs.listing.put_block.Statement.{statement}

@@ -1,7 +1,7 @@
 -- `put_family`: the name of the kind that it is, or the last where it is none of the others.
 use native.Mathlib.Omega.{arith}
 use Rattle.lines.specs.Listing.{familyOf}
-use Rattle.lines.proofs.Putting.{wider}
+use Rattle.digits.proofs.Putting.{wider}
 use Rattle.lines.proofs.Lines.{last-family}
 use borrow.Author.Needs.{needs}
 use Rattle.lines.proofs.listing.put_family.Statement.{statement}

@@ -5,8 +5,8 @@ use native.Mathlib.Omega.{arith}
 use lib.ListN.{length}
 use lib.Seq.{length-sets}
 use Rattle.lines.specs.Listing.{linesOf}
-use Rattle.lines.specs.Puts.{Put}
-use Rattle.lines.proofs.Putting.{nothing}
+use Rattle.digits.specs.Puts.{Put}
+use Rattle.digits.proofs.Putting.{nothing}
 use Rattle.lines.proofs.Lines.{next-line}
 use borrow.Author.Needs.{needs}
 use Rattle.lines.proofs.listing.put_lines.Statement.{statement}

@@ -8,7 +8,8 @@ use Rattle.fixed.proofs.Scans.{Clean, clean-start, clean-turn, clean-stop, clea
 use Rattle.record.specs.Reading.{bodyAt}
 use Rattle.record.specs.declared.types.Body.{Body}
 use Rattle.page.specs.Outcomes.{accepted, refused}
-use Rattle.page.specs.Validation.{claimedAt, claimedAfter, faultClaimed, faultTwo}
+use Rattle.runs.specs.Runs.{claimedAt, claimedAfter}
+use Rattle.page.specs.Validation.{faultClaimed, faultTwo}
 use borrow.Author.Needs.{needs}
 use Rattle.page.proofs.second.pass_two.Statement.{statement}
 use Rattle.page.proofs.second.pass_two.Tie as tie

@@ -3,7 +3,7 @@ use mathlib.Core.Path.{sym, ap, _∙_}
 use mathlib.Core.List.{List}
 use Prim.Native.Nat.{ℕ}
 use lib.Seq.{length-take-le}
-use Rattle.program.specs.Tokens.{gap, lexed}
+use Rattle.symbols.specs.Tokens.{gap, lexed}
 use Rattle.program.specs.Texts.{readTokens}
 use Rattle.program.specs.Kept.{wanted}
 use borrow.Author.Needs.{needs}

@@ -8,11 +8,11 @@ use native.Mathlib.Omega.{arith}
 use borrow.Author.Tests.{not-true, not-false}
 use lib.ListN.{length, drop}
 use Rattle.fixed.proofs.Signs.{signed-within}
-use Rattle.program.specs.Tokens.{gap, lexed, tokenBy}
+use Rattle.symbols.specs.Tokens.{gap, lexed, tokenBy}
 use Rattle.program.specs.Kept.{keeps}
 use Rattle.program.specs.declared.types.Kept.{Kept}
 use Rattle.program.proofs.Taken.{Compiling, compiling-start, compiling-turn, compiling-many, compiling-end, built-whole, built-not}
-use Rattle.program.proofs.Lexed.{found-token, found-none}
+use Rattle.symbols.proofs.Lexed.{found-token, found-none}
 use borrow.Author.Needs.{needs}
 use Rattle.program.proofs.compiling.compile_text.Statement.{statement}
 use Rattle.program.proofs.compiling.compile_text.Tie as tie

@@ -3,7 +3,7 @@ use mathlib.Core.Path.{refl}
 use Prim.Native.Nat.{_-_}
 use native.Mathlib.Omega.{arith}
 use lib.ListN.{length}
-use Rattle.program.proofs.Lexed.{Nonzero, zero-goes, zero-stops, zero-ends}
+use Rattle.symbols.proofs.Lexed.{Nonzero, zero-goes, zero-stops, zero-ends}
 use borrow.Author.Needs.{needs}
 use Rattle.program.proofs.compiling.text_end.Statement.{statement}
 use Rattle.program.proofs.compiling.text_end.Tie as tie

@@ -5,7 +5,7 @@ use lib.ListN.{take}
 use Rattle.fixed.proofs.Signs.{signed-back, signed-within}
 use Rattle.program.specs.Parse.{countZ}
 use Rattle.program.specs.Words.{Words, mark0, tokenW, tokenK}
-use Rattle.program.specs.Tokens.{tokenBy}
+use Rattle.symbols.specs.Tokens.{tokenBy}
 use Rattle.program.specs.Kept.{heldBy, outersBy}
 use Rattle.program.proofs.Taken.{keeps-bad, keeps-at, grown-state, grown-wait, begin-fails, kept-begin, kept-going, kept-over, mark-none, mark-one, mark-two}
 use borrow.Author.Needs.{needs}

@@ -5,7 +5,7 @@ use native.Mathlib.Omega.{arith}
 use lib.ListN.{take}
 use Rattle.program.specs.Parse.{countZ}
 use Rattle.program.specs.Words.{mark1, tokenW}
-use Rattle.program.specs.Tokens.{tokenBy}
+use Rattle.symbols.specs.Tokens.{tokenBy}
 use Rattle.program.specs.Kept.{outersBy}
 use Rattle.program.proofs.Taken.{keeps-bad, grown-state, one-fails}
 use borrow.Author.Needs.{needs}

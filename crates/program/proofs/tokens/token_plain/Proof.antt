@@ -8,7 +8,7 @@ use Rattle.fixed.proofs.Signs.{signed-back}
 use Rattle.stack.specs.Programs.{copy, index}
 use Rattle.program.specs.Parse.{nothing}
 use Rattle.program.specs.Words.{going, mark0, flushW, heldW, tokenW}
-use Rattle.program.specs.Tokens.{opens, closes, ifT, ifelseT, copyT, indexT, rollT, numT, tokenBy}
+use Rattle.symbols.specs.Tokens.{opens, closes, ifT, ifelseT, copyT, indexT, rollT, numT, tokenBy}
 use Rattle.program.specs.Kept.{heldBy, outersBy}
 use Rattle.program.proofs.Taken.{keeps-bad, keeps-at, grown-state, grown-wait, low-fails, high-fails, op-goes, turn-plain, low-z}
 use borrow.Author.Needs.{needs}

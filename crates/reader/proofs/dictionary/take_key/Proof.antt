@@ -2,7 +2,7 @@
 use mathlib.Core.Path.{sym, ap, _∙_}
 use lib.Seq.{length-take-le}
 use borrow.Author.Tests.{eq-eqb, ne-eqb}
-use Rattle.reader.specs.Names.{keyNamed}
+use Rattle.keys.specs.Names.{keyNamed}
 use Rattle.reader.specs.Tokens.{tookKey}
 use borrow.Author.Needs.{needs}
 use Rattle.reader.proofs.dictionary.take_key.Statement.{statement}

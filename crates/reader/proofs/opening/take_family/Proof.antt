@@ -1,7 +1,7 @@
 -- A family's name, or 12.
 use mathlib.Core.Path.{sym, ap, _∙_}
 use lib.Seq.{length-take-le}
-use Rattle.reader.specs.Names.{familyNamed}
+use Rattle.keys.specs.Names.{familyNamed}
 use Rattle.reader.specs.Tokens.{tookFamily, ofFamily}
 use borrow.Author.Needs.{needs}
 use Rattle.reader.proofs.opening.take_family.Statement.{statement}

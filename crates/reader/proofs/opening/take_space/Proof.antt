@@ -3,7 +3,7 @@ use mathlib.Core.Path.{sym, ap, _∙_}
 use denote.Ref.{now}
 use lib.Seq.{length-take-le}
 use borrow.Author.Tests.{eq-eqb, ne-eqb}
-use Rattle.reader.specs.Names.{deviceNamed}
+use Rattle.keys.specs.Names.{deviceNamed}
 use Rattle.reader.specs.Spaces.{nameOf}
 use Rattle.reader.specs.Kept.{framesAt, topOf, deepOf}
 use Rattle.reader.specs.Tokens.{tookSpace, device}

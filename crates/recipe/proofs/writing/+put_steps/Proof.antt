@@ -3,8 +3,8 @@ use mathlib.Core.Path.{refl, sym, ap, _∙_}
 use native.Mathlib.Omega.{arith}
 use lib.Seq.{sets}
 use Rattle.space.specs.Levels.{rankIn}
-use Rattle.recipe.specs.Parts.{rowWords, tintWords, programWords}
-use Rattle.recipe.proofs.Steps.{steps-plain, steps-separation, steps-calculated, steps-indexed, plain-room, head-room, steps-room, steps-set}
+use Rattle.parts.specs.Parts.{rowWords, tintWords, programWords}
+use Rattle.parts.proofs.Steps.{steps-plain, steps-separation, steps-calculated, steps-indexed, plain-room, head-room, steps-room, steps-set}
 use borrow.Author.Needs.{needs}
 use Prim.Native.Nat.{ℕ, _<_}
 use borrow.Fn.Kinds.{In}
@@ -12,10 +12,10 @@ use borrow.Fn.PlainCycle.{Measures, is, falls, and}
 use Rattle.recipe.proofs.writing.put_steps.Reads as put-steps
 use Rattle.recipe.proofs.writing.put_steps.Kinds as put-steps-kinds
 use Rattle.recipe.proofs.writing.+put_steps.Lts-put_steps as put-steps-lts
-use Rattle.recipe.proofs.parts.put_ends.Reads as put-ends-reads
-use Rattle.recipe.proofs.parts.put_program.Reads as put-program-reads
-use Rattle.recipe.proofs.parts.put_row.Reads as put-row-reads
-use Rattle.recipe.proofs.parts.put_tint.Reads as put-tint-reads
+use Rattle.parts.proofs.put_ends.Reads as put-ends-reads
+use Rattle.parts.proofs.put_program.Reads as put-program-reads
+use Rattle.parts.proofs.put_row.Reads as put-row-reads
+use Rattle.parts.proofs.put_tint.Reads as put-tint-reads
 use Rattle.space.proofs.plain_at.Reads as plain-at-reads
 use Rattle.space.proofs.tinted_at.Reads as tinted-at-reads
 use Rattle.space.proofs.count.Reads as count-reads

@@ -8,7 +8,7 @@ use lib.Seq.{sets}
 use Rattle.fixed.proofs.Signs.{signed-is}
 use Rattle.space.specs.Spaces.{Space, countOf, wordsOf}
 use Rattle.space.proofs.Levels.{level-space, space-read}
-use Rattle.recipe.specs.Recipes.{stepsOf, recipeOf}
+use Rattle.parts.specs.Recipes.{stepsOf, recipeOf}
 use Rattle.recipe.proofs.Longest.{length-at, length-in}
 use Rattle.recipe.proofs.Replies.{reply-none, reply-short, reply-words}
 use borrow.Author.Needs.{needs}
