@@ -1,5 +1,5 @@
-// The C interface: each operation under a plain name, for C and Rust to link. How a record and a reply are laid out stands in `c_layout`, what a reply of 64 bits
-// is in `sktelbaan_runner`; the rest is what the crates below reply.
+// The C interface: each operation under a plain name, for C and Rust to link. How a record is laid out stands in `c_records`, how a reply is in `c_layout`, and what
+// a reply of 64 bits is in `sktelbaan_runner`; the rest is what the crates below reply.
 ghost use mathlib.Core.Path.{_≡_};
 ghost use Rattle.colour.specs.Evaluating.{evaluated};
 ghost use Rattle.inks.specs.Search.{foundInk};
