@@ -2,8 +2,8 @@
 use Prim.Native.Nat.{ℕ, _+_, _*_}
 use mathlib.Core.List.{List, [], _∷_}
 use lib.ListN.{length}
-use Rattle.inks.specs.Replies.{Page, jobs, houses, neither, Reply, found, refusal}
-use Rattle.inks.specs.Names.{nameStart}
+use Rattle.ink_names.specs.Replies.{Page, jobs, houses, neither, Reply, found, refusal}
+use Rattle.ink_names.specs.Names.{nameStart}
 use Rattle.c_layout.specs.Replies.{inHalves}
 
 -- 0 neither page, 1 the job's page, 2 the house page

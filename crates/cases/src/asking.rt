@@ -1,9 +1,9 @@
 // Cases of inks by name.
-use inks::Ink;
-use inks::Which;
+use ink_names::Ink;
+use ink_names::Which;
+use ink_names::name_start;
 use inks::find;
 use inks::name_in;
-use inks::name_start;
 use libc::STDOUT_FILENO;
 use octets::of_signed;
 use text::say;

@@ -2,14 +2,14 @@
 ghost use mathlib.Core.Path.{_≡_};
 ghost use Rattle.page.specs.Outcomes.{accepted};
 ghost use Rattle.page.specs.Validation.{validated};
-ghost use Rattle.inks.specs.Replies.{houses, found as foundOn, refusal, said, meaning};
-ghost use Rattle.inks.specs.Search.{lowest as lowestOf, either, inkOn, onAccepted, foundInk};
-ghost use Rattle.inks.specs.Parts.{NamePart};
-use crate::Ink;
-use crate::Which;
-use crate::names::name_part;
-use crate::search::Place;
-use crate::search::lowest;
+ghost use Rattle.ink_names.specs.Replies.{houses, found as foundOn, refusal, said, meaning};
+ghost use Rattle.ink_names.specs.Search.{lowest as lowestOf, either, inkOn, onAccepted, foundInk};
+ghost use Rattle.ink_names.specs.Parts.{NamePart};
+use ink_names::Ink;
+use ink_names::Place;
+use ink_names::Which;
+use ink_names::lowest;
+use ink_names::name_part;
 use page::Verdict;
 use page::validate;
 

@@ -4,13 +4,13 @@ use mathlib.Core.List.{List, [], _∷_}
 use Prim.Native.Nat.{ℕ, _≤_, _<_}
 use lib.ListN.{length}
 use Rattle.fixed.specs.Bytes.{blocks}
-use Rattle.inks.specs.Replies.{Reply, blockIn, said, meaning}
-use Rattle.inks.specs.Names.{nameStart}
-use Rattle.inks.specs.Search.{foundInk}
-use Rattle.inks.specs.declared.Which.{Which}
-use Rattle.inks.specs.declared.Ink.{Ink}
-use Rattle.inks.specs.declared.Ink.the-variants.{Found, Refused}
-use Rattle.inks.proofs.Laws.{found-short, block-below}
+use Rattle.ink_names.specs.Replies.{Reply, blockIn, said, meaning}
+use Rattle.ink_names.specs.Names.{nameStart}
+use Rattle.ink_names.specs.Search.{foundInk}
+use Rattle.ink_names.specs.declared.Which.{Which}
+use Rattle.ink_names.specs.declared.Ink.{Ink}
+use Rattle.ink_names.specs.declared.Ink.the-variants.{Found, Refused}
+use Rattle.ink_names.proofs.Laws.{found-short, block-below}
 use Rattle.sktelbaan_runner.specs.Replies.{inHalves}
 use Rattle.c_layout.specs.Inks.{onPage, inkOf, placeOf}
 

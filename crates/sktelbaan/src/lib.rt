@@ -2,7 +2,7 @@
 // a reply of 64 bits is in `sktelbaan_runner`; the rest is what the crates below reply.
 ghost use mathlib.Core.Path.{_≡_};
 ghost use Rattle.colour.specs.Evaluating.{evaluated};
-ghost use Rattle.inks.specs.Search.{foundInk};
+ghost use Rattle.ink_names.specs.Search.{foundInk};
 ghost use Rattle.page.specs.Validation.{validated};
 ghost use Rattle.recipe.specs.PageWrites.{writeReply, writeWords};
 ghost use Rattle.runner.specs.Runs.{ran};
@@ -20,7 +20,7 @@ ghost use Rattle.sktelbaan.specs.Replies.{pageOf};
 mod texts;
 
 use block::Reply;
-use inks::Ink;
+use ink_names::Ink;
 use sktelbaan_runner::halves;
 
 // Validates a page. The reply gives nothing.
@@ -127,7 +127,7 @@ pub extern "C" fn sktelbaan_find_ink(
     let t = inks::find(job, house, name);
     match t {
         Ink::Found { page, block } => {
-            let from = inks::name_start(block) as u32;
+            let from = ink_names::name_start(block) as u32;
             let size = name.len() as u32;
             *place = [from, size];
             halves(0, c_layout::on_page(page, block))

@@ -1,8 +1,8 @@
 -- `find`: what validation finds of the job's page is given, and only where it is accepted is the house page looked at.
 use mathlib.Core.Path.{sym, ap, _∙_}
 use Rattle.page.specs.Outcomes.{meaning as judged}
-use Rattle.inks.specs.Search.{foundInk}
-use Rattle.inks.proofs.Found.{past-accepted, at-refused}
+use Rattle.ink_names.specs.Search.{foundInk}
+use Rattle.ink_names.proofs.Found.{past-accepted, at-refused}
 use borrow.Author.Needs.{needs}
 use Rattle.inks.proofs.asking.find.Statement.{statement}
 use Rattle.inks.proofs.asking.find.Tie as tie

@@ -1,7 +1,7 @@
 -- `find_beside`: what validation finds of the house page is given, and only where it is accepted is the ink looked for.
 use mathlib.Core.Path.{sym, ap, _∙_}
 use Rattle.page.specs.Outcomes.{meaning as judged}
-use Rattle.inks.proofs.Found.{past-accepted, at-refused}
+use Rattle.ink_names.proofs.Found.{past-accepted, at-refused}
 use borrow.Author.Needs.{needs}
 use Rattle.inks.proofs.asking.find_beside.Statement.{statement}
 use Rattle.inks.proofs.asking.find_beside.Tie as tie

@@ -1,6 +1,6 @@
 -- `find_in_both`: the block that the search gives of the job's page, or what it gives of the house page.
 use mathlib.Core.Path.{sym, _∙_}
-use Rattle.inks.proofs.Found.{at-first, past-first}
+use Rattle.ink_names.proofs.Found.{at-first, past-first}
 use borrow.Author.Needs.{needs}
 use Rattle.inks.proofs.asking.find_in_both.Statement.{statement}
 use Rattle.inks.proofs.asking.find_in_both.Tie as tie

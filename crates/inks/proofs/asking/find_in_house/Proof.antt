@@ -1,7 +1,7 @@
 -- `find_in_house`: the block that the search gives, or 8.
 use mathlib.Core.Path.{sym, ap, _∙_}
-use Rattle.inks.specs.Search.{either}
-use Rattle.inks.specs.declared.search.Place.the-variants.{Nowhere}
+use Rattle.ink_names.specs.Search.{either}
+use Rattle.ink_names.specs.declared.search.Place.the-variants.{Nowhere}
 use borrow.Author.Needs.{needs}
 use Rattle.inks.proofs.asking.find_in_house.Statement.{statement}
 use Rattle.inks.proofs.asking.find_in_house.Tie as tie

@@ -1,7 +1,7 @@
 -- `name_in`: the name is on the page that `find` names, as long as the one asked for; each way returns its own part.
 use mathlib.Core.Path.{refl}
 use native.Mathlib.Omega.{arith}
-use Rattle.inks.proofs.Parts.{job-room, job-part, house-room, house-part, neither-part, no-part}
+use Rattle.ink_names.proofs.Parts.{job-room, job-part, house-room, house-part, neither-part, no-part}
 use borrow.Author.Needs.{needs}
 use Rattle.inks.proofs.asking.name_in.Statement.{statement}
 use Rattle.inks.proofs.asking.name_in.Tie as tie

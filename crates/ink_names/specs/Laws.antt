@@ -9,9 +9,9 @@ use Rattle.record.specs.declared.types.Separation.{Separation as InkRecord}
 use Rattle.record.specs.declared.types.Body.the-variants.{Separation}
 use Rattle.page.specs.Outcomes.{accepted, refused}
 use Rattle.page.specs.Validation.{validated}
-use Rattle.inks.specs.Replies.{jobs, houses, neither, found, refusal}
-use Rattle.inks.specs.Names.{nameStart, nameSize}
-use Rattle.inks.specs.Search.{foundInk}
+use Rattle.ink_names.specs.Replies.{jobs, houses, neither, found, refusal}
+use Rattle.ink_names.specs.Names.{nameStart, nameSize}
+use Rattle.ink_names.specs.Search.{foundInk}
 
 -- block n of a page is a Separation of that name: as long, and the same bytes
 pub record IsInk (page name : List ℕ) (n : ℕ) : Type 0 where

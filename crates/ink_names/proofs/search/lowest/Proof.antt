@@ -5,13 +5,13 @@ use native.Mathlib.Omega.{arith}
 use Rattle.fixed.proofs.Scans.{Clean, clean-start, clean-turn, clean-stop, clean-end}
 use Rattle.page.proofs.Sizes.{sized-most}
 use Rattle.page.proofs.Accepted.{well-sized}
-use Rattle.inks.specs.Search.{lowest}
-use Rattle.inks.specs.declared.search.Place.{Place}
-use Rattle.inks.specs.declared.search.Place.the-variants.{At, Nowhere}
-use Rattle.inks.proofs.Found.{mark, mark-yes, mark-no}
+use Rattle.ink_names.specs.Search.{lowest}
+use Rattle.ink_names.specs.declared.search.Place.{Place}
+use Rattle.ink_names.specs.declared.search.Place.the-variants.{At, Nowhere}
+use Rattle.ink_names.proofs.Found.{mark, mark-yes, mark-no}
 use borrow.Author.Needs.{needs}
-use Rattle.inks.proofs.search.lowest.Statement.{statement}
-use Rattle.inks.proofs.search.lowest.Tie as tie
+use Rattle.ink_names.proofs.search.lowest.Statement.{statement}
+use Rattle.ink_names.proofs.search.lowest.Tie as tie
 
 abbrev Inv-loop : tie.InvT-loop
 Inv-loop page name n i₀ i = Clean {A = Place} Nowhere (λ _ k. At k) (mark page name) n i

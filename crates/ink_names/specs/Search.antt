@@ -7,10 +7,10 @@ use lib.ListN.{length}
 use Rattle.fixed.specs.Loops.{firstFrom}
 use Rattle.page.specs.Outcomes.{Outcome, accepted, refused}
 use Rattle.page.specs.Validation.{validated}
-use Rattle.inks.specs.Replies.{Page, jobs, houses, neither, Reply, found, refusal}
-use Rattle.inks.specs.Names.{inkAt}
-use Rattle.inks.specs.declared.search.Place.{Place}
-use Rattle.inks.specs.declared.search.Place.the-variants.{At, Nowhere}
+use Rattle.ink_names.specs.Replies.{Page, jobs, houses, neither, Reply, found, refusal}
+use Rattle.ink_names.specs.Names.{inkAt}
+use Rattle.ink_names.specs.declared.search.Place.{Place}
+use Rattle.ink_names.specs.declared.search.Place.the-variants.{At, Nowhere}
 
 -- the lowest block of a page that is an ink of that name
 unfoldable pub lowest : List ℕ → List ℕ → Place

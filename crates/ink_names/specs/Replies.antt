@@ -1,9 +1,9 @@
 -- What asking for an ink by its name comes to (FORMAT.md, Inks by name).
 use Prim.Native.Nat.{ℕ}
-use Rattle.inks.specs.declared.Which.{Which}
-use Rattle.inks.specs.declared.Which.the-variants.{Job, House, Neither}
-use Rattle.inks.specs.declared.Ink.{Ink}
-use Rattle.inks.specs.declared.Ink.the-variants.{Found, Refused}
+use Rattle.ink_names.specs.declared.Which.{Which}
+use Rattle.ink_names.specs.declared.Which.the-variants.{Job, House, Neither}
+use Rattle.ink_names.specs.declared.Ink.{Ink}
+use Rattle.ink_names.specs.declared.Ink.the-variants.{Found, Refused}
 
 -- the page that a reply is about
 pub data Page : Type 0 where

@@ -9,11 +9,11 @@ use denote.Enum.Declared as Declared
 use Rattle.record.specs.declared.types.Body.{Body}
 use Rattle.record.specs.declared.types.Body.the-variants.{Free, CalGray, CalRgb, Lab, Indexed, Separation, Palette, Program}
 use Rattle.record.proofs.types.Body as BodyEnum
-use Rattle.inks.specs.Names.{sameName, inkNamed}
-use Rattle.inks.proofs.Named.{ink-by, name-room, ink-stands}
+use Rattle.ink_names.specs.Names.{sameName, inkNamed}
+use Rattle.ink_names.proofs.Named.{ink-by, name-room, ink-stands}
 use borrow.Author.Needs.{needs}
-use Rattle.inks.proofs.names.is_ink.Statement.{statement}
-use Rattle.inks.proofs.names.is_ink.Tie as tie
+use Rattle.ink_names.proofs.names.is_ink.Statement.{statement}
+use Rattle.ink_names.proofs.names.is_ink.Tie as tie
 
 -- which of the variants a body is: a Separation is the sixth
 tag : Body → ℕ

@@ -5,8 +5,8 @@ use mathlib.Core.List.{List}
 use Prim.Native.Nat.{ℕ, _+_}
 use denote.Ref.{RefT, ptr, now}
 use lib.ListN.{take, drop}
-use Rattle.inks.specs.Replies.{jobs, houses, neither, Reply, found, refusal}
-use Rattle.inks.specs.Names.{nameStart, nameSize}
+use Rattle.ink_names.specs.Replies.{jobs, houses, neither, Reply, found, refusal}
+use Rattle.ink_names.specs.Names.{nameStart, nameSize}
 
 -- a slice of bytes
 abbrev pub Slice : Type 0

@@ -10,15 +10,15 @@ use Rattle.fixed.specs.Bytes.{blocks}
 use Rattle.page.specs.Outcomes.{accepted, refused}
 use Rattle.page.specs.Validation.{validated}
 use Rattle.page.proofs.Accepted.{below-most}
-use Rattle.inks.specs.Replies.{Page, jobs, houses, neither, Reply, found, refusal, blockIn}
-use Rattle.inks.specs.Names.{nameStart, nameSize}
-use Rattle.inks.specs.Search.{lowest, foundInk}
-use Rattle.inks.specs.Laws.{IsInk, None, Lowest, Accepted, InksByName}
-use Rattle.inks.specs.declared.search.Place.{Place}
-use Rattle.inks.specs.declared.search.Place.the-variants.{At, Nowhere}
-use Rattle.inks.proofs.Refused.{refused-below}
-use Rattle.inks.proofs.Named.{test-is, is-test, ink-size, ink-short, ink-room, ink-there}
-use Rattle.inks.proofs.Found.{lowest-at, lowest-none, past-accepted, at-refused, either-jobs, either-houses, either-neither, found-both, refused-ways, on-both}
+use Rattle.ink_names.specs.Replies.{Page, jobs, houses, neither, Reply, found, refusal, blockIn}
+use Rattle.ink_names.specs.Names.{nameStart, nameSize}
+use Rattle.ink_names.specs.Search.{lowest, foundInk}
+use Rattle.ink_names.specs.Laws.{IsInk, None, Lowest, Accepted, InksByName}
+use Rattle.ink_names.specs.declared.search.Place.{Place}
+use Rattle.ink_names.specs.declared.search.Place.the-variants.{At, Nowhere}
+use Rattle.ink_names.proofs.Refused.{refused-below}
+use Rattle.ink_names.proofs.Named.{test-is, is-test, ink-size, ink-short, ink-room, ink-there}
+use Rattle.ink_names.proofs.Found.{lowest-at, lowest-none, past-accepted, at-refused, either-jobs, either-houses, either-neither, found-both, refused-ways, on-both}
 
 -- two pages are told apart
 apart : {C : Type 0} → (p q : Page) → p ≡ q → (p ≡ q → _≡_ {A = ℕ} 0 1) → C

@@ -9,13 +9,13 @@ use lib.ListN.{length}
 use Rattle.fixed.proofs.Scans.{first-none}
 use Rattle.page.specs.Outcomes.{Outcome, accepted, refused}
 use Rattle.page.specs.Validation.{validated}
-use Rattle.inks.specs.Replies.{Page, jobs, houses, neither, Reply, found, refusal}
-use Rattle.inks.specs.Names.{inkAt}
-use Rattle.inks.specs.Search.{lowest, either, onAccepted, foundInk}
-use Rattle.inks.specs.Laws.{Accepted}
-use Rattle.inks.specs.declared.search.Place.{Place}
-use Rattle.inks.specs.declared.search.Place.the-variants.{At, Nowhere}
-use Rattle.inks.proofs.Firsts.{First, first-ways}
+use Rattle.ink_names.specs.Replies.{Page, jobs, houses, neither, Reply, found, refusal}
+use Rattle.ink_names.specs.Names.{inkAt}
+use Rattle.ink_names.specs.Search.{lowest, either, onAccepted, foundInk}
+use Rattle.ink_names.specs.Laws.{Accepted}
+use Rattle.ink_names.specs.declared.search.Place.{Place}
+use Rattle.ink_names.specs.declared.search.Place.the-variants.{At, Nowhere}
+use Rattle.ink_names.proofs.Firsts.{First, first-ways}
 
 -- the number that stands for a block in the search: 0 where it is no ink of that name
 abbrev pub mark : List ℕ → List ℕ → ℕ → ℕ

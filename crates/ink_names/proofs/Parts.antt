@@ -6,16 +6,16 @@ use denote.Ref.{now}
 use lib.ListN.{length}
 use Rattle.page.specs.Outcomes.{accepted}
 use Rattle.page.specs.Validation.{validated}
-use Rattle.inks.specs.Replies.{neither, Reply, found, said, meaning}
-use Rattle.inks.specs.Names.{nameStart, nameSize}
-use Rattle.inks.specs.Search.{foundInk}
-use Rattle.inks.specs.Laws.{Lowest}
-use Rattle.inks.specs.Parts.{Slice, PartOf, NamePart}
-use Rattle.inks.specs.declared.Which.{Which}
-use Rattle.inks.specs.declared.Which.the-variants.{Job, House, Neither}
-use Rattle.inks.specs.declared.Ink.{Ink}
-use Rattle.inks.specs.declared.Ink.the-variants.{Found, Refused}
-use Rattle.inks.proofs.Laws.{inks-by-name, lowest-size, lowest-room}
+use Rattle.ink_names.specs.Replies.{neither, Reply, found, said, meaning}
+use Rattle.ink_names.specs.Names.{nameStart, nameSize}
+use Rattle.ink_names.specs.Search.{foundInk}
+use Rattle.ink_names.specs.Laws.{Lowest}
+use Rattle.ink_names.specs.Parts.{Slice, PartOf, NamePart}
+use Rattle.ink_names.specs.declared.Which.{Which}
+use Rattle.ink_names.specs.declared.Which.the-variants.{Job, House, Neither}
+use Rattle.ink_names.specs.declared.Ink.{Ink}
+use Rattle.ink_names.specs.declared.Ink.the-variants.{Found, Refused}
+use Rattle.ink_names.proofs.Laws.{inks-by-name, lowest-size, lowest-room}
 
 -- a part as long as the name asked for is as long as the name of the block that was found
 sized-part : (page : Slice) (name : List ℕ) → validated (now page) ≡ accepted → (n : ℕ) → Lowest (now page) name n → {part : Slice}

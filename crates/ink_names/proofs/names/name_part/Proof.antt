@@ -2,10 +2,10 @@
 use mathlib.Core.Path.{_≡_, refl}
 use Prim.Native.Nat.{_+_, _-_}
 use native.Mathlib.Omega.{arith}
-use Rattle.inks.specs.Names.{nameStart}
+use Rattle.ink_names.specs.Names.{nameStart}
 use borrow.Author.Needs.{needs}
-use Rattle.inks.proofs.names.name_part.Statement.{statement}
-use Rattle.inks.proofs.names.name_part.Tie as tie
+use Rattle.ink_names.proofs.names.name_part.Statement.{statement}
+use Rattle.ink_names.proofs.names.name_part.Tie as tie
 
 name-start-requires : tie.Need-name-start-requires
 name-start-requires c κs = search needs

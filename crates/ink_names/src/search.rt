@@ -2,7 +2,7 @@
 ghost use mathlib.Core.Path.{_≡_};
 ghost use Rattle.page.specs.Outcomes.{accepted};
 ghost use Rattle.page.specs.Validation.{validated};
-ghost use Rattle.inks.specs.Search.{lowest as lowestOf};
+ghost use Rattle.ink_names.specs.Search.{lowest as lowestOf};
 use crate::names::is_ink;
 
 // Where an ink is on a page: the lowest block that has its name, or none.

@@ -12,7 +12,7 @@ use Rattle.fixed.proofs.Decide.{cond-ind}
 use Rattle.page.specs.Outcomes.{Outcome, accepted, refused, andThen}
 use Rattle.page.specs.Validation.{wellSized, faultOne, faultTwo, passes, validated}
 use Rattle.page.proofs.Sizes.{sized-most}
-use Rattle.inks.proofs.Firsts.{First, first-ways}
+use Rattle.ink_names.proofs.Firsts.{First, first-ways}
 
 module _ (number block : ℕ) where
   -- what two passes refuse, the first refuses or the second

@@ -5,9 +5,9 @@ use borrow.Author.Tests.{eq-eqb, ne-eqb}
 use lib.Dec.{eqb}
 use lib.ListN.{length, getD}
 use Rattle.fixed.proofs.Scans.{Passing, passing-start, passing-turn, passing-stop, passing-end}
-use Rattle.inks.specs.Names.{sameName}
-use Rattle.inks.proofs.names.is_same.Statement.{statement}
-use Rattle.inks.proofs.names.is_same.Tie as tie
+use Rattle.ink_names.specs.Names.{sameName}
+use Rattle.ink_names.proofs.names.is_same.Statement.{statement}
+use Rattle.ink_names.proofs.names.is_same.Tie as tie
 
 abbrev Inv-loop : tie.InvT-loop
 Inv-loop s t k₀ k = Passing (λ i. eqb (getD s i 0) (getD t i 0)) 0 (length t) k

@@ -22,8 +22,8 @@ use Rattle.page.specs.Outcomes.{accepted}
 use Rattle.page.specs.Validation.{validated}
 use Rattle.page.proofs.Sizes.{sized-whole}
 use Rattle.page.proofs.Accepted.{well-sized, formed-at}
-use Rattle.inks.specs.Names.{sameName, inkNamed, inkAt, nameLength, nameStart, nameSize}
-use Rattle.inks.specs.Laws.{IsInk}
+use Rattle.ink_names.specs.Names.{sameName, inkNamed, inkAt, nameLength, nameStart, nameSize}
+use Rattle.ink_names.specs.Laws.{IsInk}
 
 -- two names that are the same are equal, and equal names are the same
 same-equal : (s t : List ℕ) → sameName s t ≡ true → s ≡ t
