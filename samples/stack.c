@@ -1,7 +1,8 @@
 /* stack
  *
- * Measures how much of the machine's stack running a recipe takes: one without a program, and the longest that has one. Prints both, and fails where the
- * second takes more than the header says. It links libsktelbaan_runner.a alone, as a plate setter does.
+ * Measures how much of the machine's stack running a recipe takes: Gray, which calls least; CalRGB with gammas of tenths, which calls deepest of those without
+ * a program; and the longest that has a program. Prints all three, and fails where one takes more than the header says. It links libsktelbaan_runner.a alone,
+ * as a plate setter does.
  */
 #include "sktelbaan_runner.h"
 
@@ -10,12 +11,14 @@
 #include <stdlib.h>
 #include <string.h>
 
-enum { ROOM = 1 << 20, PAINT = 0xA5 };
+enum { ROOM = 1 << 20, PAINT = 0xA5, PLAIN = 999 };
 
-/* What a thread is to run, and where its stack stood when it did. */
+/* What a thread is to run, on how many components, how many bytes it may take, and where its stack stood when it did. */
 struct job {
     const int32_t *words;
     size_t words_len;
+    size_t components;
+    size_t most;
     uint64_t reply;
     unsigned char *top;
 };
@@ -23,10 +26,10 @@ struct job {
 static void *run(void *given) {
     struct job *job = (struct job *)given;
     unsigned char here = 0;
-    int32_t tint = 250000;
+    int32_t colour[3] = {250000, 500000, 750000};
     double floats[4] = {0};
     job->top = &here;
-    job->reply = sktelbaan_run(job->words, job->words_len, &tint, 1, floats);
+    job->reply = sktelbaan_run(job->words, job->words_len, colour, job->components, floats);
     return NULL;
 }
 
@@ -52,7 +55,8 @@ static size_t touched(struct job *job) {
 }
 
 int main(void) {
-    static const int32_t plain[] = {1, 1, 0, 0, 1000000, 4};
+    static const int32_t gray[] = {1, 1, 0, 0, 1000000, 4};
+    static const int32_t decoded[] = {3, 8, 2200000, 1800000, 2200000, 412400, 212600, 19300, 357600, 715200, 119200, 180500, 72200, 950500};
     static int32_t longest[SKTELBAAN_MOST_WORDS];
     size_t n = 0;
     /* 1 input; 12, one number left, and as many words as there is room for before the closing step: dup and pop in turn. */
@@ -65,14 +69,19 @@ int main(void) {
         longest[n++] = 23;
     }
     longest[n++] = 4;
-    struct job without = {plain, sizeof plain / sizeof *plain, 0, NULL};
-    struct job with = {longest, n, 0, NULL};
-    size_t least = touched(&without);
-    size_t most = touched(&with);
-    printf("stack without a program %zu, with one of %d words %zu\n", least, longest[3], most);
-    if (sktelbaan_refusal(without.reply) != 0 || sktelbaan_refusal(with.reply) != 0 || most > SKTELBAAN_MOST_STACK) {
-        fprintf(stderr, "stack: a refusal, or more than %d bytes\n", SKTELBAAN_MOST_STACK);
-        return 1;
+    struct job jobs[] = {
+        {gray, sizeof gray / sizeof *gray, 1, PLAIN, 0, NULL},
+        {decoded, sizeof decoded / sizeof *decoded, 3, PLAIN, 0, NULL},
+        {longest, n, 1, SKTELBAAN_MOST_STACK, 0, NULL},
+    };
+    size_t bytes[3];
+    for (size_t i = 0; i < 3; i++) {
+        bytes[i] = touched(&jobs[i]);
+        if (sktelbaan_refusal(jobs[i].reply) != 0 || bytes[i] > jobs[i].most) {
+            fprintf(stderr, "stack: recipe %zu is refused, or takes %zu bytes\n", i, bytes[i]);
+            return 1;
+        }
     }
+    printf("stack without a program %zu, decoding tenths %zu, with a program of %d words %zu\n", bytes[0], bytes[1], longest[3], bytes[2]);
     return 0;
 }

@@ -76,5 +76,5 @@ pub fn step(text: &[u8], count: usize, c: Colour) -> Colour
 {
     let mut words = [0i32; ROOM];
     let n = compile(text, &mut words);
-    form::run(&words[..n], count, c)
+    tinting::run(&words[..n], count, c)
 }

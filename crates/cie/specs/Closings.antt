@@ -3,6 +3,7 @@
 use mathlib.Core.Bool.{Bool}
 use mathlib.Core.List.{List, [], _∷_}
 use lib.IntN.{ℤ}
+use lib.Ieee.{Float}
 use Rattle.fixed.specs.Numbers.{float}
 use Rattle.fixed.specs.Values.{value}
 use Rattle.fixed.specs.declared.values.Colour.{Colour}
@@ -19,13 +20,13 @@ use Rattle.cie.specs.Steps.{tenthsOf, decoded, whiteOf, grayXyz, matrixO
 abbrev pub calGrayOf : GrayClosing → ℤ → Xyz
 calGrayOf k a = grayXyz (whiteOf (k .xw) (k .zw)) (decoded (tenthsOf (k .gamma)) a)
 
+-- CalRGB, of components that are decoded
+abbrev pub mixedOf : RgbClosing → Float → Float → Float → Xyz
+mixedOf k a b c = rgbXyz (matrixOf (k .xa) (k .ya) (k .za) (k .xb) (k .yb) (k .zb) (k .xc) (k .yc) (k .zc)) a b c
+
 -- CalRGB, each component decoded by its own gamma
 abbrev pub calRgbOf : RgbClosing → ℤ → ℤ → ℤ → Xyz
-calRgbOf k a b c =
-    rgbXyz (matrixOf (k .xa) (k .ya) (k .za) (k .xb) (k .yb) (k .zb) (k .xc) (k .yc) (k .zc))
-    (decoded (tenthsOf (k .ga)) a)
-    (decoded (tenthsOf (k .gb)) b)
-    (decoded (tenthsOf (k .gc)) c)
+calRgbOf k a b c = mixedOf k (decoded (tenthsOf (k .ga)) a) (decoded (tenthsOf (k .gb)) b) (decoded (tenthsOf (k .gc)) c)
 
 abbrev pub calLabOf : LabClosing → ℤ → ℤ → ℤ → Xyz
 calLabOf k l a b = labXyz (whiteOf (k .xw) (k .zw)) l a b

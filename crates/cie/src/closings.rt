@@ -3,7 +3,7 @@ ghost use mathlib.Core.Path.{_≡_};
 ghost use mathlib.Core.List.{[], _∷_};
 ghost use mathlib.Core.Bool.{Bool};
 ghost use Rattle.cie.specs.Answers.{said};
-ghost use Rattle.cie.specs.Closings.{calGrayOf, calRgbOf, calLabOf, closedBy};
+ghost use Rattle.cie.specs.Closings.{calGrayOf, mixedOf, calRgbOf, calLabOf, closedBy};
 use crate::Answer;
 use crate::Closing;
 use crate::GrayClosing;
@@ -25,11 +25,18 @@ pub fn close_gray(k: GrayClosing, a: i32) -> Xyz
     gray(white(k.xw, k.zw), decode(a, k.gamma))
 }
 
+// The point that CalRGB gives of its components, which are decoded.
+pub fn mix(k: RgbClosing, a: f64, b: f64, c: f64) -> Xyz
+    ensures { λ r. ⌜ r ≡ mixedOf k a b c ⌝ }
+{
+    let m = matrix(k.xa, k.ya, k.za, k.xb, k.yb, k.zb, k.xc, k.yc, k.zc);
+    rgb(m, a, b, c)
+}
+
 fn close_rgb(k: RgbClosing, a: i32, b: i32, c: i32) -> Xyz
     ensures { λ r. ⌜ r ≡ calRgbOf k a b c ⌝ }
 {
-    let m = matrix(k.xa, k.ya, k.za, k.xb, k.yb, k.zb, k.xc, k.yc, k.zc);
-    rgb(m, decode(a, k.ga), decode(b, k.gb), decode(c, k.gc))
+    mix(k, decode(a, k.ga), decode(b, k.gb), decode(c, k.gc))
 }
 
 fn close_lab(k: LabClosing, l: i32, a: i32, b: i32) -> Xyz

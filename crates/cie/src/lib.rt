@@ -5,6 +5,7 @@ mod steps;
 
 pub use closings::close;
 pub use closings::close_gray;
+pub use closings::mix;
 pub use lab_step::lab;
 pub use steps::decode;
 pub use steps::gray;

@@ -50,6 +50,10 @@ resulting m s c = record { values = results m s (c .values); moved = c .moved ||
 unfoldable pub formStep : ℕ → List ℤ → Colour → Colour
 formStep m ws c = resulting m (runs ws (tintIn (c .values) ∷ [])) c
 
+-- the values after it, which do not depend on what moved before
+abbrev pub formValues : ℕ → List ℤ → List ℤ → List ℤ
+formValues m ws v = results m (runs ws (tintIn v ∷ [])) v
+
 -- the colour after a program: its meaning
 unfoldable pub programStep : ℕ → Code → Colour → Colour
 programStep m code c = resulting m (ran code (tintIn (c .values) ∷ [])) c

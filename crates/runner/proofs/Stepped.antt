@@ -1,22 +1,22 @@
 -- Laws of specs/Runs.antt: a run is its first step and the run of the words after it.
 use mathlib.Core.Path.{_≡_, refl, sym, ap, _∙_, subst}
 use mathlib.Core.List.{List, [], _∷_}
-use Prim.Native.Nat.{ℕ, zero, suc, pred, _+_, _-_, _≤_}
+use Prim.Native.Nat.{ℕ, zero, suc, pred, _-_, _≤_}
 use native.Mathlib.Nat.{le-refl}
 use native.Mathlib.Omega.{arith}
 use lib.IntN.{ℤ}
 use lib.ListN.{length, drop, take, length-drop}
-use lib.Seq.{take-all, drop-drop}
+use lib.Seq.{take-all}
 use Rattle.fixed.specs.declared.values.Colour.{Colour}
 use Rattle.cie.specs.Answers.{Reply, refusal}
 use Rattle.cie.specs.declared.Closing.{Closing}
 use Rattle.steps.specs.Steps.{stepBy, stepOf}
-use Rattle.steps.specs.Ranges.{Bounded}
+use Rattle.steps.specs.Ranges.{Bounded, Carried}
 use Rattle.steps.specs.declared.Step.{Step}
 use Rattle.steps.specs.declared.Step.the-variants.{Limit, Row, Tint, Program, Close}
 use Rattle.steps.specs.declared.Read.{Read}
 use Rattle.steps.specs.declared.Read.the-variants.{At, Nothing}
-use Rattle.steps.proofs.Sound.{Sound, step-sound}
+use Rattle.steps.proofs.Sound.{Standing, Sound, step-sound}
 use Rattle.runner.specs.Runs.{Turn, done, more, ended, stepped, turnOf, runsAfter, runs}
 
 -- ---- a run and its first step
@@ -69,51 +69,43 @@ open-step n c l v size (Tint e m) isnt = refl
 open-step n c l v size (Program m k) isnt = refl
 open-step n c l v size (Close k) isnt = absurd (isnt k refl)
 
--- ---- the loop: a step read off the words from `at` on
+-- ---- the loop: a step read off the words that are left
 
--- those words, as the part of a slice has them
-pub part-is : (ws : List ℤ) (at : ℕ) → take (length ws - at) (drop at ws) ≡ drop at ws
-part-is ws at = take-all (length ws - at) (drop at ws) (rw length-drop (le-refl _))
-
+-- the words after `size`, as the part of a slice has them
 abbrev pub part : List ℤ → ℕ → List ℤ
-part ws at = take (length ws - at) (drop at ws)
+part l size = take (length l - size) (drop size l)
 
--- what is known of a step s of `size` words that was read there: it closes, or leaves the colour u
-pub record Known (n c : ℕ) (ws : List ℤ) (at : ℕ) (v : Colour) (s : Step) (size : ℕ) : Type 0 where
+pub part-is : (l : List ℤ) (size : ℕ) → part l size ≡ drop size l
+part-is l size = take-all (length l - size) (drop size l) (rw length-drop (le-refl _))
+
+-- what is known of a step s of `size` words that was read off l: it closes, or leaves the colour u
+pub record Known (n c : ℕ) (l : List ℤ) (v : Colour) (s : Step) (size : ℕ) : Type 0 where
   pub low : 1 ≤ size
-  pub high : at + size ≤ length ws
+  pub high : size ≤ length l
   pub range : Bounded s
-  pub ends : (k : Closing) → s ≡ Close k → ended (part ws at) n c k size v ≡ runs n c (drop at ws) v
-  pub leaves : (u : Colour) → ((k : Closing) → s ≡ Close k → ⊥) → u ≡ stepped (part ws at) v s
-      → runs n c (drop (at + size) ws) u ≡ runs n c (drop at ws) v
+  pub stands : (k : Closing) → s ≡ Close k → Carried l k
+  pub ends : (k : Closing) → s ≡ Close k → ended l n c k size v ≡ runs n c l v
+  pub leaves : (u : Colour) → ((k : Closing) → s ≡ Close k → ⊥) → u ≡ stepped l v s → runs n c (part l size) u ≡ runs n c l v
 
-module _ (n c : ℕ) (ws : List ℤ) (at : ℕ) (v : Colour) {r : Read} (heard : r ≡ stepOf (part ws at)) where
-  abbrev rest : List ℤ
-  rest = drop at ws
-
-  plain : r ≡ stepOf rest
-  plain = heard ∙ ap stepOf (part-is ws at)
-
-  pub none-read : r ≡ Nothing → refusal 11 0 ≡ runs n c rest v
-  none-read e = ap (begins n c rest v) (sym e ∙ plain) ∙ sym (runs-step n c rest v)
+module _ (n c : ℕ) (l : List ℤ) (v : Colour) {r : Read} (heard : r ≡ stepOf l) where
+  pub none-read : r ≡ Nothing → refusal 11 0 ≡ runs n c l v
+  none-read e = ap (begins n c l v) (sym e ∙ heard) ∙ sym (runs-step n c l v)
 
   module _ (s : Step) (size : ℕ) (read : r ≡ At s size) where
-    sound : Sound rest (At s size)
-    sound = subst (Sound rest) (sym plain ∙ read) (step-sound rest)
+    sound : Sound l (At s size)
+    sound = subst (Sound l) (sym heard ∙ read) (step-sound l)
 
-    run-is : runs n c rest v ≡ after n c rest size (turnOf rest n c v size s)
-    run-is = begun n c rest v (sym plain ∙ read)
+    run-is : runs n c l v ≡ after n c l size (turnOf l n c v size s)
+    run-is = begun n c l v (sym heard ∙ read)
 
-    pub one-read : Known n c ws at v s size
+    pub one-read : Known n c l v s size
     one-read = record {
       low = sound .0;
-      high = let h : size ≤ length ws - at = rw length-drop at (sound .1) in omega (arith, sound .0);
+      high = sound .1;
       range = sound .2;
-      ends = λ k e.
-          ap (λ (l : List ℤ). ended l n c k size v) (part-is ws at) ∙
-          sym (run-is ∙ ap (λ (x : Step). after n c rest size (turnOf rest n c v size x)) e);
+      stands = λ k e. subst (Standing l) e (sound .3);
+      ends = λ k e. sym (run-is ∙ ap (λ (x : Step). after n c l size (turnOf l n c v size x)) e);
       leaves = λ u isnt e.
-          ap (λ (l : List ℤ). runs n c l u) (sym (drop-drop size at ws)) ∙
-          (ap (runs n c (drop size rest)) (e ∙ ap (λ (l : List ℤ). stepped l v s) (part-is ws at)) ∙
-          sym (run-is ∙ open-step n c rest v size s isnt));
+          ap (λ (ws : List ℤ). runs n c ws u) (part-is l size) ∙
+          (ap (runs n c (drop size l)) e ∙ sym (run-is ∙ open-step n c l v size s isnt));
     }

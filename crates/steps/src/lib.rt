@@ -3,6 +3,7 @@ mod parse;
 mod words;
 
 use cie::Closing;
+pub use parse::rgb_words;
 pub use parse::step_of;
 pub use words::is_count;
 

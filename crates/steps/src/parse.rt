@@ -126,7 +126,8 @@ fn gray_read(l: &[i32]) -> Read
     Read::Nothing
 }
 
-fn rgb_words(l: &[i32]) -> RgbClosing
+// The numbers of step 8.
+pub fn rgb_words(l: &[i32]) -> RgbClosing
     ensures { λ r. ⌜ r ≡ rgbWords (now (l .entry)) ⌝ }
 {
     RgbClosing {

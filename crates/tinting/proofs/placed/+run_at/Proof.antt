@@ -2,27 +2,28 @@
 use mathlib.Core.Path.{ap, _∙_}
 use mathlib.Core.List.{List}
 use lib.IntN.{ℤ}
-use Rattle.form.specs.Steps.{formStep}
+use Rattle.fixed.specs.declared.values.Colour.{Colour}
+use Rattle.form.specs.Steps.{formStep, formValues}
 use Rattle.form.proofs.Parts.{part-none, part-rest, part-in}
 use borrow.Author.Needs.{needs}
 use Prim.Native.Nat.{ℕ, _+_, _<_}
 use borrow.Fn.Kinds.{In}
 use borrow.Fn.PlainCycle.{Measures, is, falls, and}
-use Rattle.form.proofs.placed.run_at.Reads as run-at
-use Rattle.form.proofs.placed.run_at.Kinds as run-at-kinds
-use Rattle.form.proofs.placed.+run_at.Lts-run_at as run-at-lts
-use Rattle.form.proofs.stepping.run.Reads as run-reads
-use Rattle.form.proofs.placed.+run_at.{statement}
-use Rattle.form.proofs.placed.+run_at.Tie.{close}
+use Rattle.tinting.proofs.placed.run_at.Reads as run-at
+use Rattle.tinting.proofs.placed.run_at.Kinds as run-at-kinds
+use Rattle.tinting.proofs.placed.+run_at.Lts-run_at as run-at-lts
+use Rattle.tinting.proofs.stepping.run.Reads as run-reads
+use Rattle.tinting.proofs.placed.+run_at.{statement}
+use Rattle.tinting.proofs.placed.+run_at.Tie.{close}
 
-abbrev μ-run-at : Measures 1 run-at-kinds.ps ℕ
+abbrev μ-run-at : Measures 2 run-at-kinds.ps ℕ
 μ-run-at κs a = a .1 .0 + a .1 .1 .0
 
-abbrev run-at-at : ℕ → In 1 run-at-kinds.ps
-run-at-at t = and 1 run-at-kinds.ps (is 1 run-at-kinds.ps μ-run-at t) run-at.Pre
+abbrev run-at-at : ℕ → In 2 run-at-kinds.ps
+run-at-at t = and 2 run-at-kinds.ps (is 2 run-at-kinds.ps μ-run-at t) run-at.Pre
 
-abbrev run-at-below : ℕ → In 1 run-at-kinds.ps
-run-at-below t = and 1 run-at-kinds.ps (falls 1 run-at-kinds.ps _<_ μ-run-at t) run-at.Pre
+abbrev run-at-below : ℕ → In 2 run-at-kinds.ps
+run-at-below t = and 2 run-at-kinds.ps (falls 2 run-at-kinds.ps _<_ μ-run-at t) run-at.Pre
 
 -- what each callee asks and tells, itself below t
 abbrev claims : ℕ → run-at-lts.Claims
@@ -33,18 +34,18 @@ run-at-run-at-requires t c κs = search needs
 
 run-at-returns : (t : ℕ) → run-at-lts.Need-returns (claims t) (run-at-at t) run-at.Post
 run-at-returns t c =
-    let after-if1 = c .before in
+    let after-if1 = c .before .before in
     let a = after-if1 .before .args in
-    c .run-at .ensures ∙ ap (λ (l : List ℤ). formStep (a .count) l (a .c)) (part-none (a .words .now) (a .at) (a .n) (after-if1 .if1 .taken))
+    c .run-at .ensures ∙ ap (λ (l : List ℤ). formValues (a .count) l (a .values .now)) (part-none (a .words .now) (a .at) (a .n) (after-if1 .if1 .taken))
 
 run-at-run-at-requires-2 : (t : ℕ) → run-at-lts.Need-run-at-requires-2 (claims t) (run-at-at t) run-at.Post
 run-at-run-at-requires-2 t c κs = search needs
 
 run-at-returns-2 : (t : ℕ) → run-at-lts.Need-returns-2 (claims t) (run-at-at t) run-at.Post
 run-at-returns-2 t c =
-    let after-if2 = c .before in
+    let after-if2 = c .before .before in
     let a = after-if2 .before .before .args in
-    c .run-at2 .ensures ∙ ap (λ (l : List ℤ). formStep (a .count) l (a .c)) (part-rest (a .words .now) (a .at) (a .n) (after-if2 .if2 .taken))
+    c .run-at2 .ensures ∙ ap (λ (l : List ℤ). formValues (a .count) l (a .values .now)) (part-rest (a .words .now) (a .at) (a .n) (after-if2 .if2 .taken))
 
 run-at-add-run : (t : ℕ) → run-at-lts.Need-add-run (claims t) (run-at-at t) run-at.Post
 run-at-add-run t c = search needs
@@ -65,9 +66,12 @@ run-at-run-requires : (t : ℕ) → run-at-lts.Need-run-requires (claims t) (run
 run-at-run-requires t c κs = search needs
 
 run-at-returns-3 : (t : ℕ) → run-at-lts.Need-returns-3 (claims t) (run-at-at t) run-at.Post
+unfolding formStep
 run-at-returns-3 t c =
-    let a = c .before .before .before .before .args in
-    c .run .ensures ∙ ap (λ (l : List ℤ). formStep (a .count) l (a .c)) (part-in (a .words .now) (a .at) (a .n))
+    let after-run = c .before in
+    let after-v = after-run .before .before in
+    let a = after-v .before .before .before .args in
+    ap (λ (k : Colour). k .values) (after-run .run .ensures) ∙ ap (λ (l : List ℤ). formValues (a .count) l (a .values .now)) (part-in (a .words .now) (a .at) (a .n))
 
 pub +run-at-spec : {M : Type 1} → statement M
 +run-at-spec = close μ-run-at λ t. run-at-lts.spec (claims t)

@@ -7,8 +7,8 @@ use Rattle.fixed.specs.Values.{value, filled}
 use Rattle.stack.specs.Memory.{stackOf}
 use Rattle.fixed.proofs.Signs.{signed-is}
 use Rattle.fixed.proofs.Listed.{filled-turn}
-use Rattle.form.proofs.stepping.fill.Statement.{statement}
-use Rattle.form.proofs.stepping.fill.Tie as tie
+use Rattle.tinting.proofs.stepping.fill.Statement.{statement}
+use Rattle.tinting.proofs.stepping.fill.Tie as tie
 
 abbrev Inv-loop : tie.InvT-loop
 Inv-loop a h m n u₀ k₀ u k = (k ≤ n) × (u ≡ filled (λ j. value (stackOf a h) (m - 1 - j)) k u₀)

@@ -6,10 +6,10 @@ use Rattle.fixed.specs.Values.{value}
 use Rattle.fixed.proofs.Signs.{signed-is, signed-within}
 use Rattle.stack.specs.Flat.{runs}
 use Rattle.stack.specs.Memory.{stackOf}
-use Rattle.form.proofs.Filled.{form-made}
+use Rattle.tinting.proofs.Made.{form-made}
 use borrow.Author.Needs.{needs}
-use Rattle.form.proofs.stepping.run.Statement.{statement}
-use Rattle.form.proofs.stepping.run.Tie as tie
+use Rattle.tinting.proofs.stepping.run.Statement.{statement}
+use Rattle.tinting.proofs.stepping.run.Tie as tie
 
 array-copy-out-x : tie.Need-array-copy-out-x
 array-copy-out-x c = search needs

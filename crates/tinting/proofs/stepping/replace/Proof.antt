@@ -4,11 +4,11 @@ use Prim.Native.Nat.{_-_}
 use native.Mathlib.Omega.{arith}
 use Rattle.fixed.specs.Values.{value}
 use Rattle.stack.specs.Memory.{stackOf}
 use Rattle.form.specs.Steps.{results}
-use Rattle.form.proofs.Filled.{filled-past}
+use Rattle.tinting.proofs.Made.{filled-past}
 use borrow.Author.Needs.{needs}
-use Rattle.form.proofs.stepping.replace.Statement.{statement}
-use Rattle.form.proofs.stepping.replace.Tie as tie
+use Rattle.tinting.proofs.stepping.replace.Statement.{statement}
+use Rattle.tinting.proofs.stepping.replace.Tie as tie
 
 fill-requires : tie.Need-fill-requires
 fill-requires c κs = search needs
