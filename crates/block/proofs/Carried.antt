@@ -5,7 +5,6 @@ use Prim.Native.Nat.{ℕ}
 use borrow.Author.Tests.{ne-eqb}
 use lib.ListN.{length}
 use Rattle.layout.specs.Field.{Bytes}
-use Rattle.record.specs.Layout.{blockOf}
 use Rattle.record.specs.Reading.{recordAt}
 use Rattle.record.specs.Rules.{faultOf}
 use Rattle.record.specs.Fits.{Fits}

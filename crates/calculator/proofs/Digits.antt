@@ -1,7 +1,7 @@
 -- A number that is written in digits is read as it was.
 use mathlib.Core.Path.{_≡_, refl, sym, ap, _∙_}
 use mathlib.Core.Bool.{Bool, true, false, cond, not, _&&_}
-use mathlib.Core.List.{List, [], _∷_, _++_, foldl, foldl-append}
+use mathlib.Core.List.{List, [], _∷_, foldl, foldl-append}
 use Prim.Native.Nat.{ℕ, zero, suc, _+_, _-_, _*_, _/_, _%_, _≤_, _<_}
 use native.Mathlib.Nat.{zero-add}
 use native.Mathlib.Numerals.{add-one}
@@ -10,10 +10,10 @@ use borrow.Author.Tests.{le-leb, lt-leb}
 use lib.IntN.{ℤ, pos, negsuc, negℤ}
 use lib.Dec.{leb, eqb}
 use Rattle.lexical.specs.Chars.{decimal}
-use Rattle.lexical.specs.Numbers.{none, numeric, afterOther, withDigit, withOther, withFigure, numberOf, scaleOf, millionths, fits, valueOf}
+use Rattle.lexical.specs.Numbers.{none, numeric, afterOther, withDigit, withOther, withFigure, numberOf, scaleOf, fits, valueOf}
 use Rattle.lexical.specs.declared.types.Part.the-variants.{Sign, Digits, Decimals}
 use Rattle.lexical.specs.declared.types.Number.{Number}
-use Rattle.symbols.specs.Tokens.{Token, numT, other, tokenBy, named, wordToken}
+use Rattle.symbols.specs.Tokens.{numT, other, tokenBy, named, wordToken}
 use Rattle.calculator.specs.Written.{digits, figures, numberText, Narrow}
 
 -- ---- one figure

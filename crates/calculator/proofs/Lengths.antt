@@ -2,20 +2,20 @@
 use mathlib.Core.Path.{_≡_, refl, subst}
 use mathlib.Core.Bool.{Bool, true, false, cond}
 use mathlib.Core.List.{List, [], _∷_, _++_}
-use Prim.Native.Nat.{ℕ, zero, suc, _+_, _*_, _≤_}
+use Prim.Native.Nat.{ℕ, suc, _+_, _*_, _≤_}
 use native.Mathlib.Omega.{arith}
 use borrow.Author.Tests.{leb-true}
 use lib.IntN.{ℤ, pos}
 use lib.Dec.{ltb, leb, eqb}
 use lib.ListN.{length, length-append, length-set}
 use Rattle.lexical.specs.Chars.{white, regular, lineEnd}
-use Rattle.lexical.specs.Numbers.{numeric, numberOf, fits, valueOf}
-use Rattle.stack.specs.Programs.{Op, number, copy, index, roll, two, one, constant, pop, exch, dup, Code}
-use Rattle.stack.specs.Flat.{plainBy, twoBy, oneBy, countsOf, wordsOf, flat}
+use Rattle.lexical.specs.Numbers.{numeric, numberOf, fits}
+use Rattle.stack.specs.Programs.{Op, number, copy, index}
+use Rattle.stack.specs.Flat.{plainBy, wordsOf}
 use Rattle.symbols.specs.Tokens.{Token, opens, closes, ifT, ifelseT, copyT, indexT, rollT, numT, opT, other, tokenBy, named, wordToken, braceToken, between, Mode, gap, comment, run, lexed, tokensOf}
 use Rattle.program.specs.Parse.{Held, nothing, last, lastTwo, State, within, whole, start, bad, Count, whole!, broken, countZ, spoiled, counting, rolling, tokens, parsed}
 use Rattle.program.specs.Words.{Mark, mark0, mark1, mark2, Outer, first, second, neither, Words, going, ended!, begin, fails, flushW, heldW, countedW, rolledW, closedW, tokenW, keptOf, tokenK, tokensK}
-use Rattle.program.specs.Texts.{Read, program, unread, mostTokens, readBy, readTokens, readOf}
+use Rattle.program.specs.Texts.{unread, mostTokens, readBy, readTokens, readOf}
 use Rattle.program.proofs.Compiled.{compiled}
 use Rattle.calculator.specs.Calculator.{wordsBy, mostFlat}
 

@@ -1,19 +1,17 @@
 -- The promises hold.
 use mathlib.Core.Path.{_≡_, refl, sym, ap, _∙_}
 use mathlib.Core.Bool.{Bool, true, false, cond}
-use mathlib.Core.List.{List, [], _∷_}
-use Prim.Native.Nat.{ℕ, _≤_}
+use mathlib.Core.List.{[], _∷_}
+use Prim.Native.Nat.{ℕ}
 use native.Mathlib.Omega.{arith}
 use lib.IntN.{ℤ, pos}
-use lib.ListN.{length, replicate, length-replicate}
+use lib.ListN.{replicate, length-replicate}
 use Rattle.fixed.proofs.Decide.{and-right}
-use Rattle.stack.specs.Stack.{sameKinds}
 use Rattle.stack.specs.Programs.{Code}
 use Rattle.stack.specs.Judging.{Judged, fits, wrong, judged}
 use Rattle.stack.proofs.Same.{same-eq}
 use Rattle.stack.proofs.Strict.{nothing-sticks}
 use Rattle.stack.proofs.Runs.{flat-is-nested}
-use Rattle.program.specs.Texts.{Read, program, readOf}
 use Rattle.form.specs.Paths.{leavesNumbers}
 use Rattle.form.specs.Steps.{fills, fitting}
 use Rattle.form.proofs.Filled.{flat-fitting, form-is-program}

@@ -6,19 +6,19 @@ use Prim.Native.Nat.{ℕ, zero, suc, _+_, _/_, _%_, _≤_, _<_}
 use native.Mathlib.Omega.{arith}
 use borrow.Author.Tests.{le-leb, eqb-true}
 use lib.IntN.{ℤ, pos, negsuc}
-use lib.Dec.{T, eqb, leb}
+use lib.Dec.{T, eqb}
 use lib.ListN.{length}
 use Rattle.lexical.specs.Names.{same}
 use Rattle.fixed.proofs.Decide.{and-left, and-right}
 use Rattle.lexical.specs.Chars.{white, delimiter, regular}
-use Rattle.lexical.specs.Numbers.{withDigit, withOther, withFigure, afterOther, numberOf}
+use Rattle.lexical.specs.Numbers.{withOther, withFigure, afterOther, numberOf}
 use Rattle.calculator.proofs.Tables.{at}
-use Rattle.stack.specs.Programs.{Sum, add, sub, mul, Test, equal, unequal, above, atLeast, below, atMost, Join, both, any, Two, sum, test, join, One, neg, abs, nay, Op, number, copy, index, roll, two, one, constant, pop, exch, dup, Code, done, act, when, either}
+use Rattle.stack.specs.Programs.{add, sub, mul, equal, unequal, above, atLeast, below, atMost, both, any, Two, sum, test, join, neg, abs, nay, Op, number, copy, index, roll, two, one, constant, pop, exch, dup, Code, done, act, when, either}
 use Rattle.stack.specs.Flat.{plainBy, twoBy, oneBy}
-use Rattle.symbols.specs.Tokens.{Token, opens, closes, ifT, ifelseT, copyT, indexT, rollT, numT, opT, other, bytes, tokenBy, named, sumNamed, testNamed, truthNamed, stackNamed, wordToken, braceToken, between, Mode, gap, comment, run, lexed, beforeZero, tokensOf}
-use Rattle.program.specs.Parse.{State, whole, countZ, millions, parsed}
+use Rattle.symbols.specs.Tokens.{Token, opens, closes, ifT, ifelseT, copyT, indexT, rollT, numT, opT, tokenBy, named, sumNamed, testNamed, truthNamed, stackNamed, wordToken, braceToken, between, gap, comment, run, lexed, beforeZero, tokensOf}
+use Rattle.program.specs.Parse.{countZ, millions, parsed}
 use Rattle.program.specs.Spelling.{opTokens, spelled, written, Within}
-use Rattle.program.specs.Texts.{Read, program, unread, mostTokens, readBy, readTokens, readOf}
+use Rattle.program.specs.Texts.{program, unread, mostTokens, readBy, readTokens, readOf}
 use Rattle.program.proofs.Whole.{read-written}
 use Rattle.calculator.specs.Written.{digits, figures, numberText, opName, tokenText, spaced, programText, Narrow, Writable, Carried}
 use Rattle.calculator.proofs.Digits.{number-token}

@@ -3,7 +3,7 @@ use Prim.Native.Nat.{ℕ, zero, suc, _+_, _/_, _%_, _≤_}
 use mathlib.Core.Bool.{true, false}
 use mathlib.Core.List.{List, [], _∷_, _++_}
 use lib.IntN.{ℤ, pos, negsuc}
-use Rattle.stack.specs.Programs.{Sum, add, sub, mul, Test, equal, unequal, above, atLeast, below, atMost, Join, both, any, Two, sum, test, join, One, neg, abs, nay, Op, number, copy, index, roll, two, one, constant, pop, exch, dup, Code, done, act, when, either}
+use Rattle.stack.specs.Programs.{add, sub, mul, equal, unequal, above, atLeast, below, atMost, both, any, Two, sum, test, join, One, neg, abs, nay, Op, number, copy, index, roll, two, one, constant, pop, exch, dup, Code, done, act, when, either}
 use Rattle.symbols.specs.Tokens.{Token, opens, closes, ifT, ifelseT, copyT, indexT, rollT, numT, opT, other, bytes}
 use Rattle.program.specs.Parse.{millions}
 use Rattle.program.specs.Spelling.{written}

@@ -16,11 +16,11 @@ use Rattle.fixed.proofs.Listed.{listed-value}
 use Rattle.cie.specs.declared.Closing.{Closing}
 use Rattle.cie.specs.declared.Closing.the-variants.{Nothing, Gray, Rgb, Cmyk, CalGray, CalRgb, Lab, NoMark, EveryInk}
 use Rattle.cie.specs.Closings.{closedBy}
-use Rattle.space.specs.Spaces.{Space, none, gray, rgb, cmyk, calGray, calRgb, lab, noMark, everyInk, separation, calculated, indexed, countOf, limitCount, lowOf, highOf, closingOf}
+use Rattle.space.specs.Spaces.{Space, none, gray, rgb, cmyk, calGray, calRgb, lab, noMark, everyInk, separation, calculated, indexed, countOf, limitCount, lowOf, highOf}
 use Rattle.space.specs.WellMade.{rankOf}
 use Rattle.space.proofs.Counts.{limits-high}
 use Rattle.values.specs.Limits.{limitedTo}
-use Rattle.colour.specs.Colours.{settled, valued, answered}
+use Rattle.colour.specs.Colours.{valued, answered}
 use Rattle.colour.specs.Moves.{flagOf, someOutside, FlagMeans}
 use Rattle.colour.proofs.Replies.{answered-as}
 

@@ -1,8 +1,8 @@
 -- Reading on from token to token: a turn of the loop, its end, and that the turns come to an end.
 use mathlib.Core.Path.{_≡_, refl, sym, ap, _∙_}
-use mathlib.Core.Bool.{Bool, true, false, cond, true≢false}
-use mathlib.Core.List.{List, []}
-use Prim.Native.Nat.{ℕ, suc, _+_, _-_, _*_, _≤_, _<_}
+use mathlib.Core.Bool.{true, false, true≢false}
+use mathlib.Core.List.{List}
+use Prim.Native.Nat.{ℕ, _+_, _-_, _*_, _<_}
 use native.Mathlib.Omega.{arith}
 use borrow.Author.Tests.{eq-eqb, ne-eqb}
 use lib.IntN.{ℤ}
@@ -11,10 +11,8 @@ use Rattle.lexer.specs.declared.types.Met.{Met}
 use Rattle.lexer.specs.declared.types.Met.the-variants.{Nothing, Complete, Wrong, Past}
 use Rattle.lexer.specs.declared.types.Found.{Found}
 use Rattle.lexer.specs.declared.types.Lexer.{Lexer}
-use Rattle.lexer.specs.declared.types.Mode.{Mode}
 use Rattle.lexer.specs.Scans.{Scan, Taken, takes, refuses, Progress, going, stopped, taken, handed, fed, finished, found, Finding, lastScan, lastMet, scanAt, foundAt}
 use Rattle.lexer.proofs.Texts.{fed-stopped, found-fed, pending, found-falls, found-nothing}
-use Rattle.reader.specs.declared.types.Head.{Head}
 use Rattle.reader.specs.declared.types.Took.{Took}
 use Rattle.reader.specs.Spaces.{Parser}
 use Rattle.reader.specs.Kept.{parserAt, tookAt}

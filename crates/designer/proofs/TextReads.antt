@@ -1,5 +1,5 @@
 -- The statement of the reader of texts: every line of it is a law of folds, of the end, or of the definitions.
-use mathlib.Core.Path.{_≡_, refl, sym, ap, _∙_}
+use mathlib.Core.Path.{_≡_, refl, ap, _∙_}
 use mathlib.Core.List.{List, [], _∷_, foldl}
 use Prim.Native.Nat.{ℕ}
 use native.Mathlib.Omega.{arith}
@@ -15,7 +15,7 @@ use Rattle.reader.specs.Spaces.{Parser}
 use Rattle.reader.specs.Tokens.{took}
 use Rattle.reader.specs.Texts.{Answer, page, refusal, start, partOf, concluded, settled, textOf, roomAfter}
 use Rattle.reader.proofs.Meanings.{settled-accepted}
-use Rattle.designer.specs.Lent.{View, stands, foreign, begunView, partView, endView, answerOf}
+use Rattle.designer.specs.Lent.{View, stands, foreign, partView, endView, answerOf}
 use Rattle.designer.specs.TextReads.{TextReads}
 
 -- ---- any cuts

@@ -5,8 +5,8 @@ use mathlib.Core.List.{List, foldl}
 use Rattle.page.specs.Outcomes.{accepted}
 use Rattle.page.specs.Validation.{validated}
 use Rattle.lexer.specs.Scans.{stopped, wholeOf}
-use Rattle.reader.specs.Texts.{page, refusal, start, partOf, textOf, roomAfter}
-use Rattle.designer.specs.Lent.{View, stands, begunView, partView, endView, answerOf}
+use Rattle.reader.specs.Texts.{page, refusal, start, textOf, roomAfter}
+use Rattle.designer.specs.Lent.{View, stands, partView, endView, answerOf}
 
 pub record TextReads : Type 0 where
   -- however a text is cut into parts, whatever was lent before, the answer is that of the whole text: its reply, its place and its blocks

@@ -1,7 +1,7 @@
 -- How far a tint's component is from the exact C0 + x^e (C1 - C0): each rounding of the power adds at most half a millionth, and the last one another half. Once over
 -- the exponent e = n + 1, with 10^(6n) as a, x^(n + 1) as b and the rounded power as q.
-use mathlib.Core.Path.{_≡_, refl, sym, ap, _∙_}
-use Prim.Native.Nat.{ℕ, zero, suc, _+_, _*_, _-_, _/_, _^_, _≤_, _<_}
+use mathlib.Core.Path.{_≡_, refl, ap, _∙_}
+use Prim.Native.Nat.{ℕ, zero, suc, _+_, _*_, _-_, _/_, _^_, _≤_}
 use native.Mathlib.Nat.{mul-le-mul-left, mul-le-mul-right, one-mul, pow-zero, pow-suc}
 use native.Mathlib.Omega.{arith}
 use native.Mathlib.Decide.{decLe}

@@ -9,7 +9,7 @@ use lib.IntN.{ℤ, pos, negsuc, _+ℤ_, _-ℤ_, _*ℤ_}
 use lib.Signed.{_<ℤ_, ltZ}
 use mathlib.Core.Path.{refl}
 use Rattle.fixed.specs.Numbers.{floorDiv, halfUp, partWay, paletteValue}
-use Rattle.fixed.specs.Nearest.{twiceOff, Nearer, Nearest, NeverMidway}
+use Rattle.fixed.specs.Nearest.{Nearest, NeverMidway}
 use Rattle.fixed.proofs.Diff.{Diff, up, down, itself, of-pos, add, sub, scale, shift, same, lt-true, floor-at, half-at}
 use Rattle.fixed.proofs.Floors.{less-yes}
 

@@ -1,14 +1,14 @@
 -- Reading the bytes of a number that was written gives it back, and writing the number that was read changes nothing.
 use mathlib.Core.Path.{_≡_, refl, ap, _∙_, sym}
 use mathlib.Core.List.{List}
-use Prim.Native.Nat.{ℕ, _+_, _*_, _-_, _/_, _%_, _<_, _≤_, _^_}
+use Prim.Native.Nat.{ℕ, _+_, _*_, _/_, _%_, _<_, _≤_, _^_}
 use native.Mathlib.Nat.{div-div-eq-div-mul, div-add-mod', mod-eq-of-lt}
 use native.Mathlib.Omega.{arith}
 use lib.ListN.{length, getD, set, length-set}
 use lib.Seq.{getD-set-same, getD-set-other, set-getD, sets}
 use lib.IntN.{ℤ}
 use mir.Syntax.{w32}
-use mir.Val.{SFits, Fits}
+use mir.Val.{SFits}
 use mir.ValLaws.{toZ-ofZ, ofZ-toZ, ofZ-fits}
 use Rattle.fixed.specs.Bytes.{twoAt, fourAt, numberAt, twoBytes, fourBytes, numberBytes, bits, signed}
 use Rattle.fixed.proofs.Stores.{two-stored, four-stored}

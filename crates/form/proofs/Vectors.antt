@@ -7,7 +7,7 @@ use Rattle.stack.specs.Stack.{pushed, binary, rolled, sameKinds}
 use Rattle.stack.specs.Programs.{number, two, test, below, mul, sub, abs, pop, dup, roll, Code, done, act, either}
 use Rattle.stack.specs.Operators.{acted, applied, twoOf, sumOf, oneOf, fitted}
 use Rattle.stack.specs.Meaning.{ran}
-use Rattle.stack.specs.Judging.{judged, typed, tested, fine, Judged, fits, wrong}
+use Rattle.stack.specs.Judging.{typed, tested, fine, Judged, fits, wrong}
 use Rattle.stack.specs.Flat.{flat, itemBy, codeOf, opBy, plainBy, twoBy, goes, runs}
 use Rattle.form.specs.Paths.{met, at, comes, checks}
 use Rattle.form.proofs.Places.{unmets}

@@ -6,7 +6,7 @@ use denote.Ref.{now}
 use lib.ListN.{length}
 use Rattle.page.specs.Outcomes.{accepted}
 use Rattle.page.specs.Validation.{validated}
-use Rattle.ink_names.specs.Replies.{neither, Reply, found, said, meaning}
+use Rattle.ink_names.specs.Replies.{Reply, found, said, meaning}
 use Rattle.ink_names.specs.Names.{nameStart, nameSize}
 use Rattle.ink_names.specs.Search.{foundInk}
 use Rattle.ink_names.specs.Laws.{Lowest}

@@ -1,9 +1,9 @@
 -- A byte of a word, and reading on: what `found` finds is what the fold over the bytes hands on.
 use mathlib.Core.Path.{_≡_, refl, sym, ap, _∙_}
 use mathlib.Core.Bool.{Bool, true, false, cond}
-use mathlib.Core.List.{List, [], _∷_, _++_, foldl, foldl-append}
+use mathlib.Core.List.{List, [], _∷_, _++_}
 use mathlib.Core.Logic.{⊎-elim, _⊎_, inl, inr}
-use Prim.Native.Nat.{ℕ, zero, suc, _+_, _-_, _≤_, _<_}
+use Prim.Native.Nat.{ℕ, suc, _+_, _≤_, _<_}
 use native.Mathlib.Omega.{arith}
 use native.Mathlib.Numerals.{add-one}
 use borrow.Author.Tests.{lt-ltb, le-ltb, ltb-true, ltb-false}
@@ -16,7 +16,7 @@ use Rattle.lexer.specs.declared.types.Mode.the-variants.{Gap, Comment, R
 use Rattle.lexer.specs.declared.types.Move.{Move}
 use Rattle.lexer.specs.declared.types.Met.{Met}
 use Rattle.lexer.specs.declared.types.Met.the-variants.{Nothing, Past}
-use Rattle.lexer.specs.Scans.{Word, Scan, Finding, finding, longest, bound, grown, moved, after, movedBy, lastScan, found, endedScan, endedMet, joinedScan, joinedMet, isNothing}
+use Rattle.lexer.specs.Scans.{Word, Scan, finding, longest, bound, grown, moved, after, movedBy, lastScan, found, endedScan, endedMet, joinedScan, joinedMet, isNothing}
 
 -- ---- a byte of a word
 

@@ -1,14 +1,13 @@
 -- Small texts, computed: numbers at their ends, and the tokens of a line.
 use mathlib.Core.Path.{_≡_, refl}
-use mathlib.Core.Bool.{Bool, true, false}
+use mathlib.Core.Bool.{true, false}
 use mathlib.Core.List.{List, [], _∷_}
 use Prim.Native.Nat.{ℕ}
-use lib.Dec.{eqb, ltb, leb}
 use lib.IntN.{pos, negsuc}
 use Rattle.lexical.specs.Chars.{white, delimiter, regular, hexOf}
 use Rattle.lexical.specs.Numbers.{numeric, withDigit, withOther, withFigure, afterOther, numberOf, scaleOf, fits, valueOf, exactly}
 use Rattle.lexer.specs.Moves.{begun, more, inText, escapeOf, escaped, inHex, inPair, inHash, inHashPair, ended, joined}
-use Rattle.lexer.specs.Scans.{Scan, Progress, going, stopped, Lexeme, start, after, begunWord, placed, taken, handed, joins, stepOf, fed, finished, tokensOf}
+use Rattle.lexer.specs.Scans.{Progress, going, stopped, Lexeme, start, after, begunWord, placed, taken, handed, joins, stepOf, fed, finished, tokensOf}
 use Rattle.lexer.specs.declared.types.Token.{Token}
 use Rattle.lexer.specs.declared.types.Token.the-variants.{NameToken, RegularToken, StringToken, ArrayOpen, DictClose}
 

@@ -9,7 +9,7 @@ use lib.ListN.{length}
 use Rattle.fixed.proofs.Decide.{cond-ind}
 use Rattle.lexer.specs.Moves.{isGap, ended, quiet, emit, whole, bad}
 use Rattle.lexical.specs.Chars.{regular, octal, hexByte}
-use Rattle.lexer.specs.Scans.{Scan, Taken, takes, refuses, Progress, going, stopped, bound, moved, after, movedBy, metBy, isNothing, endedScan, endedMet, joinedScan, joinedMet, taken, handed, joins, stepOf, fed, wholeOf, found, Finding, finding}
+use Rattle.lexer.specs.Scans.{Scan, Taken, takes, refuses, Progress, going, stopped, bound, after, movedBy, metBy, isNothing, endedScan, endedMet, joinedScan, joinedMet, taken, handed, joins, stepOf, fed, wholeOf, found, Finding, finding}
 use Rattle.lexer.specs.declared.types.Mode.{Mode}
 use Rattle.lexer.specs.declared.types.Mode.the-variants.{Gap, Comment, Regular, Name, Hash, HashDigit, Less, Greater, Hex, HexDigit, Text, Return, Escape, Octal, Octals}
 use Rattle.lexer.specs.declared.types.Event.{Event}

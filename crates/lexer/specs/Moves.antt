@@ -2,14 +2,12 @@
 -- lone `<`. Then it goes on with what is open, or begins something. Each time at most one thing is handed on: a byte, a token, or bad syntax.
 use Prim.Native.Nat.{ℕ, _+_, _-_, _*_, _%_}
 use mathlib.Core.Bool.{Bool, true, false, cond}
-use mathlib.Core.List.{List, [], _∷_}
 use lib.Dec.{eqb, ltb}
 use Rattle.lexical.specs.Chars.{white, delimiter, regular, lineEnd, octal, hexOf, hexByte}
 use Rattle.lexer.specs.declared.types.Mode.{Mode}
 use Rattle.lexer.specs.declared.types.Mode.the-variants.{Gap, Comment, Regular, Name, Hash, HashDigit, Less, Greater, Hex, HexDigit, Text, Return, Escape, Octal, Octals}
 use Rattle.lexer.specs.declared.types.Token.{Token}
 use Rattle.lexer.specs.declared.types.Token.the-variants.{NameToken, RegularToken, StringToken, ArrayOpen, ArrayClose, DictOpen, DictClose}
-use Rattle.lexer.specs.declared.types.Event.{Event}
 use Rattle.lexer.specs.declared.types.Event.the-variants.{Quiet, Byte, Figure, WellMade, Bad}
 use Rattle.lexer.specs.declared.types.Move.{Move}
 

@@ -1,8 +1,7 @@
 -- Numbers that fit: how large they are, and their values from their bits.
-use mathlib.Core.Path.{_≡_, refl, sym, ap, _∙_}
+use mathlib.Core.Path.{_≡_, refl, sym, _∙_}
 use mathlib.Core.Bool.{Bool, true, false, _&&_, _||_, not, cond, true≢false}
-use mathlib.Core.Logic.{⊎-elim}
-use Prim.Native.Nat.{ℕ, zero, suc, _+_, _-_, _*_, _≤_, _<_}
+use Prim.Native.Nat.{ℕ, zero, suc, _-_, _*_, _≤_, _<_}
 use native.Mathlib.Omega.{arith}
 use native.Mathlib.Nat.{mul-le-mul}
 use borrow.Author.Tests.{eqb-true, ltb-true, ltb-false, leb-true, le-leb, lt-leb, not-false}
@@ -13,7 +12,7 @@ use mir.Val.{toZ}
 use mir.ValLaws.{toZ-pos, toZ-neg}
 use Rattle.fixed.proofs.Decide.{and-left, and-right}
 use Rattle.lexical.specs.declared.types.Number.{Number}
-use Rattle.lexical.specs.Numbers.{millionths, fits, scaleOf, valueOf}
+use Rattle.lexical.specs.Numbers.{millionths, fits, valueOf}
 
 pub scaled : (a b : ℕ) → a ≤ 2147483648 → b ≤ 1000000 → a * b ≤ 2147483648000000
 scaled a b h k = mul-le-mul {n₂ = 2147483648} {m₂ = 1000000} h k

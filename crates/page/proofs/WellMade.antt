@@ -24,7 +24,7 @@ use Rattle.calculator.proofs.Runs.{code-fits, code-few}
 use Rattle.space.specs.Spaces.{Space, countOf}
 use Rattle.space.specs.Pages.{numbered, plainOf, plainAt, inkOf, tintedOf, tintedAt, spaceOf, spaceAt}
 use Rattle.space.specs.WellMade.{WellMade, rankOf}
-use Rattle.space.proofs.Levels.{numbered-ind, body-rank, plain-rank}
+use Rattle.space.proofs.Levels.{numbered-ind}
 use Rattle.space.proofs.Counts.{table-length, c0-length, c1-length}
 use Rattle.page.specs.Outcomes.{accepted}
 use Rattle.runs.specs.Runs.{permitted, within, runFault, programFault}

@@ -1,6 +1,6 @@
 -- Lab with 0 within both ranges: (100, 0, 0) gives the white point's floats, and (0, 0, 0) zeros.
 use mathlib.Core.Path.{_≡_, refl, sym, ap, _∙_}
-use mathlib.Core.Bool.{Bool, false, _||_, true≢false}
+use mathlib.Core.Bool.{false, _||_, true≢false}
 use mathlib.Core.List.{[], _∷_}
 use lib.IntN.{ℤ, pos, negsuc}
 use lib.Ieee.{Float}

@@ -7,7 +7,7 @@ use lib.IntN.{ℤ}
 use lib.ListN.{length}
 use borrow.Author.Tests.{lt-ltb}
 use Rattle.stack.specs.Programs.{Op, number, copy, index, roll, two, one, constant, pop, exch, dup, Code, done, act, when, either}
-use Rattle.symbols.specs.Tokens.{Token, opens, closes, ifT, ifelseT, opT, other}
+use Rattle.symbols.specs.Tokens.{Token, opens, closes, ifT, ifelseT, opT}
 use Rattle.program.specs.Parse.{Count, whole!, counting, rolling, joined, ended, noPair, onePair, twoPairs, Held, nothing, last, lastTwo, Level, level, State, within, whole, flushed, closed, tokenAt, token, tokens, parsed}
 use Rattle.program.specs.Spelling.{opTokens, spelled, written, Within}
 

@@ -1,9 +1,9 @@
 -- What the compiler keeps, in numbers and arrays.
 use Prim.Native.Nat.{ℕ, zero, suc, _+_, _*_, _≤_}
 use mathlib.Core.Bool.{cond}
-use mathlib.Core.List.{List, [], _∷_, _++_}
+use mathlib.Core.List.{List, [], _∷_}
 use lib.IntN.{ℤ, pos}
-use lib.Dec.{eqb, ltb}
+use lib.Dec.{eqb}
 use lib.ListN.{getD, take}
 use Rattle.stack.specs.Flat.{flat}
 use Rattle.program.specs.Parse.{Held, nothing, last, lastTwo}

@@ -1,7 +1,7 @@
 -- From tokens to the tree of a program, one token at a time. What FORMAT.md, Programs, calls bad nesting is the clauses that say `bad`: too deep, a pair without its
 -- if or ifelse straight after it, an if or ifelse without its pairs straight before it, anything after the outer pair or in place of it.
-use Prim.Native.Nat.{ℕ, suc, _*_, _/_, _%_}
-use mathlib.Core.Bool.{Bool, true, false, cond}
+use Prim.Native.Nat.{suc, _*_, _/_, _%_}
+use mathlib.Core.Bool.{cond}
 use mathlib.Core.List.{List, [], _∷_}
 use lib.IntN.{ℤ, pos, negsuc, negℤ, natAbs}
 use lib.Signed.{ltZ}

@@ -5,7 +5,7 @@ use mathlib.Core.List.{List, [], _∷_, _++_}
 use lib.IntN.{ℤ, pos}
 use lib.Dec.{ltb}
 use lib.ListN.{length, set}
-use Rattle.stack.specs.Programs.{Op, number, copy, index, Code}
+use Rattle.stack.specs.Programs.{Op, number, copy, index}
 use Rattle.stack.specs.Flat.{wordsOf, flat}
 use Rattle.symbols.specs.Tokens.{Token, opens, closes, ifT, ifelseT, copyT, indexT, rollT, numT, opT, other}
 use Rattle.program.specs.Parse.{Pairs, noPair, onePair, twoPairs, Held, nothing, last, lastTwo, Level, level, State, within, whole, start, bad, Count, spoiled, counting, rolling}

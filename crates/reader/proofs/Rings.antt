@@ -1,6 +1,5 @@
 -- The ring of open spaces: a space that opens, one that gets its name, and the ones around them, which stay.
 use mathlib.Core.Path.{_≡_, refl, sym, ap, _∙_}
-use mathlib.Core.Bool.{Bool, true, false}
 use mathlib.Core.List.{List, [], _∷_, _++_, append-assoc}
 use Prim.Native.Nat.{ℕ, zero, suc, _+_, _-_, _*_, _%_, _≤_, _<_}
 use native.Mathlib.Omega.{arith}
@@ -10,7 +9,6 @@ use lib.ListN.{length, getD, set, take, drop, length-drop, length-set, drop-of-l
 use lib.Seq.{sets, sets-eq, take-add, take-at, drop-at, length-take-le, take-suc, getD-set-same, getD-set-other, drop-set-lt, drop-set-add, take-set-le, take-all}
 use Rattle.fixed.specs.Bytes.{blocks}
 use Rattle.fixed.proofs.Stores.{sets-append}
-use Rattle.lexical.specs.Names.{same}
 use Rattle.keys.proofs.Masks.{split}
 use Rattle.reader.specs.Spaces.{Frame, opened, named, nameOf, startOf}
 use Rattle.reader.specs.Kept.{ring, beforeSlot, afterSlot, nameAt, frameAt, framesAt}

@@ -7,7 +7,6 @@ use lib.ListN.{length, getD, set, take, drop, replicate, length-drop, length-rep
 use lib.Seq.{sets, length-take-le, take-suc, getD-drop, getD-take, take-all}
 use Rattle.fixed.proofs.Stores.{sets-append}
 use Rattle.layout.specs.Field.{padded}
-use Rattle.lexical.specs.Names.{same}
 
 pub padded-set : (n : ℕ) (l : List ℕ) (v : ℕ) → length l < n → set (padded n l) (length l) v ≡ padded n (l ++ (v ∷ []))
 unfolding padded

@@ -7,7 +7,7 @@ use lib.ListN.{length, getD, drop}
 use Rattle.page.specs.Outcomes.{Outcome, accepted, refused}
 use Rattle.page.specs.Validation.{validated}
 use Rattle.lexer.specs.Moves.{isGap}
-use Rattle.lexer.specs.Scans.{Scan, Progress, going, stopped, fed, finished}
+use Rattle.lexer.specs.Scans.{Progress, going, stopped, fed, finished}
 use Rattle.lexer.specs.Scans as scans
 use Rattle.reader.specs.declared.types.Want.{Want}
 use Rattle.reader.specs.declared.types.Want.the-variants.{Top, Family, Dict, Key, Value, Items, Shut, Space, Hival, Lookup, Ink}

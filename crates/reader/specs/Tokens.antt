@@ -1,11 +1,11 @@
 -- What one token does. Refusals are met in the order of the text, two at one token in the list's order: 12, 13, 14, 4, 5, 7, 15, 10, each at the first byte
 -- of its token.
 use Prim.Native.Nat.{ℕ, _+_, _*_, _/_, _^_}
-use mathlib.Core.Bool.{Bool, _&&_, _||_, not, cond}
-use mathlib.Core.List.{List, []}
+use mathlib.Core.Bool.{_&&_, _||_, not, cond}
+use mathlib.Core.List.{List}
 use lib.Dec.{eqb, ltb, leb}
 use lib.ListN.{length, set}
-use Rattle.fixed.specs.Bytes.{blocks, grayCode}
+use Rattle.fixed.specs.Bytes.{blocks}
 use Rattle.lexical.specs.declared.types.Number.{Number}
 use Rattle.lexer.specs.declared.types.Token.{Token}
 use Rattle.lexer.specs.declared.types.Token.the-variants.{NameToken, RegularToken, StringToken, ArrayOpen, ArrayClose, DictOpen, DictClose}
@@ -14,8 +14,6 @@ use Rattle.lexer.specs.Moves.{more}
 use Rattle.lexer.specs.Scans.{Scan, Taken, takes, refuses}
 use Rattle.reader.specs.declared.types.Want.{Want}
 use Rattle.reader.specs.declared.types.Want.the-variants.{Top, Family, Dict, Key, Value, Items, Shut, Space, Hival, Lookup, Ink}
-use Rattle.reader.specs.declared.types.Entry.{Entry}
-use Rattle.reader.specs.declared.types.Inner.{Inner}
 use Rattle.keys.specs.Names.{familyNamed, deviceNamed, keyNamed}
 use Rattle.keys.specs.Entries.{keyOf, lengthOf, metIn, complete, numberFault, placeOf, defaults}
 use Rattle.reader.specs.Spaces.{Parser, Made, with, opened, named, around, nameOf, paletteSize, runBlocks, madeWith}

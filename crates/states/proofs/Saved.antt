@@ -1,5 +1,5 @@
 -- What is saved is loaded again.
-use mathlib.Core.Path.{_≡_, refl, sym, ap, _∙_}
+use mathlib.Core.Path.{_≡_, refl, ap, _∙_}
 use mathlib.Core.Bool.{Bool, true, false}
 use mathlib.Core.List.{List, [], _∷_, _++_}
 use Prim.Native.Nat.{ℕ, _+_, _%_, _≤_, _<_}
@@ -13,12 +13,9 @@ use Rattle.lexical.specs.declared.types.Part.{Part}
 use Rattle.lexical.specs.declared.types.Part.the-variants.{Empty, Sign, Digits, Point, Decimals, Keyword}
 use Rattle.lexer.specs.declared.types.Mode.{Mode}
 use Rattle.lexer.specs.declared.types.Mode.the-variants.{Gap, Comment, Regular, Name, Hash, HashDigit, Less, Greater, Hex, HexDigit, Text, Return, Escape, Octal, Octals}
-use Rattle.lexer.specs.declared.types.Lexer.{Lexer}
 use Rattle.reader.specs.declared.types.Want.{Want}
 use Rattle.reader.specs.declared.types.Want.the-variants.{Top, Family, Dict, Key, Value, Items, Shut, Space, Hival, Lookup, Ink}
-use Rattle.reader.specs.declared.types.Head.{Head}
 use Rattle.reader.proofs.Rings.{name-turn}
-use Rattle.states.specs.declared.types.Packed.{Packed}
 use Rattle.states.specs.declared.types.State.{State}
 use Rattle.states.specs.Words.{pack, packed, unpacked, partIn, partTag, wantIn, wantTag, bit, lexerIn, headIn, stateIn, lexerWords, headWords, LexerFits, HeadFits}
 

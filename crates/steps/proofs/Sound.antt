@@ -24,6 +24,7 @@ use Rattle.steps.specs.declared.Read.{Read}
 use Rattle.steps.specs.declared.Read.the-variants.{At, Nothing}
 use Rattle.steps.proofs.Ranges.{row-range, tint-range}
 
+-- what a step carries stands in l
 abbrev pub Standing : List ℤ → Step → Type 0
 Standing l (Limit k lo hi) = Unit {0}
 Standing l (Row m h) = Unit {0}

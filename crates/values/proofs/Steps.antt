@@ -10,7 +10,7 @@ use lib.IntN.{ℤ, pos, natAbs}
 use lib.ListN.{set, take}
 use lib.Seq.{getD-take}
 use Rattle.fixed.specs.Numbers.{limited, outside, roundIndex, tintPower, tintValue}
-use Rattle.fixed.specs.Values.{places, value, filled, limitedAt, limitStep, indexOf, rowFrom, rowStep, tintOf, tintedBy, tintStep}
+use Rattle.fixed.specs.Values.{places, value, filled, limitStep, indexOf, rowFrom, tintOf, tintedBy, tintStep}
 use Rattle.fixed.specs.declared.values.Colour.{Colour}
 use Rattle.fixed.proofs.Steps.{limit-made}
 use Rattle.fixed.proofs.Listed.{listed-value, filled-same, index-is, index-le, row-room}

@@ -1,8 +1,6 @@
 -- The blocks of a program's text are counted one after the other.
 use mathlib.Core.Path.{sym, _∙_}
 use Prim.Native.Nat.{_-_}
-use native.Mathlib.Omega.{arith}
-use denote.Ref.{now}
 use borrow.Author.Tests.{not-true, not-false}
 use Rattle.calculator.specs.Calculator.{mostBlocks}
 use Rattle.calculator.proofs.Runs.{Counted, counted-start, counted-stop, counted-turn, counted-end}

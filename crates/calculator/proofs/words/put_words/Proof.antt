@@ -1,8 +1,6 @@
 -- The words that are compiled are put, and they are as many as is said.
-use mathlib.Core.Path.{_≡_, sym, ap, _∙_}
-use mathlib.Core.List.{List}
+use mathlib.Core.Path.{sym, ap, _∙_}
 use native.Mathlib.Omega.{arith}
-use lib.IntN.{ℤ}
 use lib.ListN.{length}
 use lib.Seq.{length-take-le}
 use Rattle.calculator.specs.Calculator.{putAt}

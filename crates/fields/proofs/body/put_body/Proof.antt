@@ -1,7 +1,6 @@
 -- `put_body`: each kind by the call of its arm; a palette or a program leaves no gap.
 use mathlib.Core.Path.{sym, _∙_}
 use mathlib.Core.List.{_++_}
-use Prim.Native.Nat.{_+_}
 use denote.Ref.{now}
 use Rattle.layout.specs.Field.{puts}
 use Rattle.record.specs.Layout.{body, rest}

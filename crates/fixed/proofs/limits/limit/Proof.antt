@@ -1,8 +1,6 @@
 -- Each exit is a case of `limited`.
 use Rattle.fixed.proofs.limits.limit.Statement.{statement}
 use Rattle.fixed.proofs.limits.limit.Tie as tie
-use Rattle.fixed.proofs.limits.limit.Reads as reads
-use Rattle.fixed.proofs.limits.limit.Lts as lts
 use borrow.Author.Needs.{needs}
 use Rattle.fixed.proofs.Signs.{tested}
 use Rattle.fixed.specs.Numbers.{limited}

@@ -1,6 +1,6 @@
 -- A signed 32-bit number and 2^31 make one that is not negative.
 use mathlib.Core.Path.{_≡_}
-use Prim.Native.Nat.{ℕ, _+_, _-_, _<_, _^_}
+use Prim.Native.Nat.{_+_, _-_, _<_, _^_}
 use native.Mathlib.Omega.{arith}
 use lib.IntN.{ℤ, pos, subℕ, _+ℤ_}
 use mir.Syntax.{w32, w64}

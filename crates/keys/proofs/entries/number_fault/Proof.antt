@@ -2,7 +2,6 @@
 use mathlib.Core.Path.{sym, _∙_}
 use borrow.Author.Tests.{not-true, not-false}
 use Rattle.keys.specs.Entries.{numberFault}
-use borrow.Author.Needs.{needs}
 use Rattle.keys.proofs.entries.number_fault.Statement.{statement}
 use Rattle.keys.proofs.entries.number_fault.Tie as tie
 

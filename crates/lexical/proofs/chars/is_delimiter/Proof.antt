@@ -1,7 +1,6 @@
 -- The ten tests are the table's entries.
 use mathlib.Core.Bool.{or-false}
 use Rattle.lexical.specs.Chars.{delimiter}
-use borrow.Author.Needs.{needs}
 use Rattle.lexical.proofs.chars.is_delimiter.Statement.{statement}
 use Rattle.lexical.proofs.chars.is_delimiter.Tie as tie
 

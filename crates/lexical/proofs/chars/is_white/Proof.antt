@@ -1,7 +1,6 @@
 -- The six tests are the table's entries.
 use mathlib.Core.Bool.{or-false}
 use Rattle.lexical.specs.Chars.{white}
-use borrow.Author.Needs.{needs}
 use Rattle.lexical.proofs.chars.is_white.Statement.{statement}
 use Rattle.lexical.proofs.chars.is_white.Tie as tie
 

@@ -1,7 +1,6 @@
 -- `used_entries`: none where the exponent is 0.
 use borrow.Author.Tests.{ne-eqb}
 use Rattle.runs.specs.Runs.{usedEntries}
-use borrow.Author.Needs.{needs}
 use Rattle.runs.proofs.runs.used_entries.Statement.{statement}
 use Rattle.runs.proofs.runs.used_entries.Tie as tie
 

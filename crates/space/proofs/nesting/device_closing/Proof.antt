@@ -2,7 +2,6 @@
 use mathlib.Core.Path.{refl}
 use Rattle.fixed.proofs.Decide.{eq-no}
 use Rattle.space.specs.Levels.{deviceClosing}
-use borrow.Author.Needs.{needs}
 use Rattle.space.proofs.nesting.device_closing.Statement.{statement}
 use Rattle.space.proofs.nesting.device_closing.Tie as tie
 

@@ -1,5 +1,5 @@
 -- `ink_level`: the name decides, None first, and then the exponent.
-use mathlib.Core.Path.{refl, ap}
+use mathlib.Core.Path.{ap}
 use borrow.Author.Tests.{ne-eqb}
 use Rattle.fixed.proofs.Decide.{is-yes, is-no}
 use Rattle.cie.specs.declared.Closing.the-variants.{NoMark, EveryInk}

@@ -1,6 +1,6 @@
 -- A number that equals itself is no NaN, so its bits may be asked for.
 use mathlib.Core.Path.{_≡_, sym}
-use mathlib.Core.Bool.{true, false, true≢false, not}
+use mathlib.Core.Bool.{true, true≢false, not}
 use lib.Dec.{T}
 use lib.Ieee.{Float, nan, inf, fin, isNan, eq}
 use borrow.Author.Needs.{needs}

@@ -1,6 +1,6 @@
 -- The limited tint is the stack at first; what the words leave of it replaces the values.
 use mathlib.Core.Path.{ap, _∙_}
-use mathlib.Core.List.{List, [], _∷_}
+use mathlib.Core.List.{[], _∷_}
 use lib.IntN.{ℤ}
 use Rattle.fixed.specs.Values.{value}
 use Rattle.fixed.proofs.Signs.{signed-is, signed-within}
