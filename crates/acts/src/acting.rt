@@ -14,7 +14,6 @@ use fixed::tint_power;
 use fixed::tint_value;
 use fixed::unit_part;
 use fixed::value_at;
-use tinting::run_at;
 
 // Value k limited to lo..hi. It goes over all places, so that no index is unknown and the values stay in registers.
 pub fn limit_step(k: u32, lo: i32, hi: i32, c: Colour) -> Colour
@@ -98,17 +97,9 @@ pub fn tint_step(l: &[i32], e: u32, m: u32, c: Colour) -> Colour
     }
 }
 
-// The program of n words after the first three, which leaves m numbers. Its values are copied, so that they stay in registers in a recipe without one.
+// The program of n words after the first three, which leaves m numbers.
 pub fn program_step(l: &[i32], m: u32, n: u32, c: Colour) -> Colour
     ensures { λ r. ⌜ r ≡ formStep m (partOf (now (l .entry)) 3 n) c ⌝ }
 {
-    let moved = c.moved;
-    let mut v = c.values;
-    let x = v[0];
-    run_at(l, 3, n as usize, m as usize, &mut v);
-    let outside = is_outside(x, 0, 1000000);
-    Colour {
-        values: v,
-        moved: moved | outside,
-    }
+    tinting::step(l, 3, n as usize, m as usize, c)
 }

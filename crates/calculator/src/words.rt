@@ -76,5 +76,5 @@ pub fn step(text: &[u8], count: usize, c: Colour) -> Colour
 {
     let mut words = [0i32; ROOM];
     let n = compile(text, &mut words);
-    tinting::run(&words[..n], count, c)
+    tinting::step(&words, 0, n, count, c)
 }

@@ -3,11 +3,11 @@
 use mathlib.Core.Bool.{Bool}
 use mathlib.Core.List.{List, [], _∷_}
 use lib.IntN.{ℤ}
-use lib.Ieee.{Float}
 use Rattle.fixed.specs.Numbers.{float}
 use Rattle.fixed.specs.Values.{value}
 use Rattle.fixed.specs.declared.values.Colour.{Colour}
 use Rattle.cie.specs.declared.Xyz.{Xyz}
+use Rattle.cie.specs.declared.Decoded.{Decoded}
 use Rattle.cie.specs.declared.GrayClosing.{GrayClosing}
 use Rattle.cie.specs.declared.RgbClosing.{RgbClosing}
 use Rattle.cie.specs.declared.LabClosing.{LabClosing}
@@ -20,14 +20,19 @@ use Rattle.cie.specs.Steps.{tenthsOf, decoded, whiteOf, grayXyz, matrixO
 abbrev pub calGrayOf : GrayClosing → ℤ → Xyz
 calGrayOf k a = grayXyz (whiteOf (k .xw) (k .zw)) (decoded (tenthsOf (k .gamma)) a)
 
+-- CalRGB's components, each decoded by its own gamma
+abbrev pub decodedOf : RgbClosing → ℤ → ℤ → ℤ → Decoded
+decodedOf k a b c = record { a = decoded (tenthsOf (k .ga)) a; b = decoded (tenthsOf (k .gb)) b; c = decoded (tenthsOf (k .gc)) c }
+
 -- CalRGB, of components that are decoded
-abbrev pub mixedOf : RgbClosing → Float → Float → Float → Xyz
-mixedOf k a b c = rgbXyz (matrixOf (k .xa) (k .ya) (k .za) (k .xb) (k .yb) (k .zb) (k .xc) (k .yc) (k .zc)) a b c
+abbrev pub mixedOf : RgbClosing → Decoded → Xyz
+mixedOf k d = rgbXyz (matrixOf (k .xa) (k .ya) (k .za) (k .xb) (k .yb) (k .zb) (k .xc) (k .yc) (k .zc)) (d .a) (d .b) (d .c)
 
--- CalRGB, each component decoded by its own gamma
+-- CalRGB, of components in millionths
 abbrev pub calRgbOf : RgbClosing → ℤ → ℤ → ℤ → Xyz
-calRgbOf k a b c = mixedOf k (decoded (tenthsOf (k .ga)) a) (decoded (tenthsOf (k .gb)) b) (decoded (tenthsOf (k .gc)) c)
+calRgbOf k a b c = mixedOf k (decodedOf k a b c)
 
+-- Lab, of components in millionths
 abbrev pub calLabOf : LabClosing → ℤ → ℤ → ℤ → Xyz
 calLabOf k l a b = labXyz (whiteOf (k .xw) (k .zw)) l a b
 
@@ -50,3 +55,15 @@ closedBy EveryInk v m = answer everyInk (float (value v 0) ∷ []) m
 -- what a colour replies at its closing step, which limits nothing and hands the flag on
 abbrev pub closed : Closing → Colour → Reply
 closed k c = closedBy k (c .values) (c .moved)
+
+-- a closing step that has no numbers, as it is; in place of any other that of no space
+unfoldable pub bareOf : Closing → Closing
+bareOf Nothing = Nothing
+bareOf Gray = Gray
+bareOf Rgb = Rgb
+bareOf Cmyk = Cmyk
+bareOf (CalGray k) = Nothing
+bareOf (CalRgb k) = Nothing
+bareOf (Lab k) = Nothing
+bareOf NoMark = NoMark
+bareOf EveryInk = EveryInk

@@ -4,7 +4,10 @@ mod lab_step;
 mod steps;
 
 pub use closings::close;
+pub use closings::close_bare;
 pub use closings::close_gray;
+pub use closings::close_lab;
+pub use closings::decode_rgb;
 pub use closings::mix;
 pub use lab_step::lab;
 pub use steps::decode;
@@ -18,6 +21,13 @@ pub struct Xyz {
     pub x: f64,
     pub y: f64,
     pub z: f64,
+}
+
+// CalRGB's components, decoded.
+pub struct Decoded {
+    pub a: f64,
+    pub b: f64,
+    pub c: f64,
 }
 
 // What is replied to a colour: its floats, or the refusal's number with the block that it is about (0 for the others).

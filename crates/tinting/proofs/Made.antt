@@ -1,32 +1,25 @@
 -- Step 12 from what a function computes; and results past the last value change none.
 use mathlib.Core.Path.{_≡_, _∙_}
 use mathlib.Core.Bool.{Bool, _||_}
-use mathlib.Core.List.{List, [], _∷_}
+use mathlib.Core.List.{List}
 use Prim.Native.Nat.{ℕ, zero, suc, _≤_, _<_}
 use native.Mathlib.Omega.{arith}
 use native.Mathlib.Decide.{decLt}
 use lib.IntN.{ℤ, pos}
 use lib.ListN.{length, set}
 use lib.Seq.{set-out}
-use Rattle.fixed.specs.Numbers.{limited, outside}
+use Rattle.fixed.specs.Numbers.{outside}
 use Rattle.fixed.specs.Values.{value, filled}
 use Rattle.fixed.specs.declared.values.Colour.{Colour}
 use Rattle.fixed.proofs.Listed.{filled-length}
-use Rattle.stack.specs.Flat.{runs}
-use Rattle.form.specs.Steps.{results, formStep, formValues}
+use Rattle.form.specs.Steps.{formStep, formValues}
 
--- ---- step 12 from what a function computes: s is the stack that the words leave, u its results, t whether the tint was moved; x is value 0
+-- ---- step 12 from what a function computes: u are the values that the words leave, t whether the tint was moved; x is value 0
 
-pub form-made : (c : Colour) (m : ℕ) (ws s : List ℤ) {u : List ℤ} {t : Bool} (x : ℤ) → u ≡ results m s (c .values) → s ≡ runs ws (limited (pos 0) (pos 1000000) x ∷ []) → t ≡ outside (pos 0) (pos 1000000) x → x ≡ value (c .values) 0
+pub form-made : (c : Colour) (m : ℕ) (ws : List ℤ) {u : List ℤ} {t : Bool} (x : ℤ) → u ≡ formValues m ws (c .values) → t ≡ outside (pos 0) (pos 1000000) x → x ≡ value (c .values) 0
     → _≡_ {A = Colour} (record { values = u; moved = c .moved || t }) (formStep m ws c)
 unfolding formStep
-form-made c m ws s x p q f g = rw (p, q, f, g)
-
--- the same where u are the values that the words leave
-pub values-made : (c : Colour) (m : ℕ) (ws : List ℤ) {u : List ℤ} {t : Bool} (x : ℤ) → u ≡ formValues m ws (c .values) → t ≡ outside (pos 0) (pos 1000000) x → x ≡ value (c .values) 0
-    → _≡_ {A = Colour} (record { values = u; moved = c .moved || t }) (formStep m ws c)
-unfolding formStep
-values-made c m ws x p f g = rw (p, f, g)
+form-made c m ws x p f g = rw (p, f, g)
 
 -- ---- results past the last value change none
 

@@ -2,5 +2,4 @@
 mod placed;
 mod stepping;
 
-pub use placed::run_at;
-pub use stepping::run;
+pub use placed::step;

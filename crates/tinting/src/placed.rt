@@ -1,14 +1,16 @@
-// A flat form that stands among a recipe's words, on its values. The function calls itself, and so stays a function of its own when it is compiled: the stack takes memory only
-// while a step 12 is run, and none in a recipe without one.
+// A flat form that stands among other words, as step 12 in a recipe, on a colour.
 ghost use mathlib.Core.Path.{_≡_};
-ghost use Rattle.form.specs.Steps.{partOf, formValues};
+ghost use Rattle.form.specs.Steps.{partOf, formValues, formStep};
+use crate::stepping::ONE;
 use crate::stepping::run;
 use fixed::Colour;
 use fixed::VALUES;
+use fixed::is_outside;
 
-// Runs the n words from `at` on, as many as there are, on value 0, limited to 0..1; `count` results replace the values from 0. The values are lent and not a whole colour, since
-// what goes to and from this call has its place in the frame of every run.
-pub fn run_at(words: &[i32], at: usize, n: usize, count: usize, values: &mut [i32; VALUES])
+// Runs the n words from `at` on, as many as there are, on the values. The function calls itself, and so stays a function of its own when it is compiled: the stack takes memory
+// only while a step 12 is run, and none in a recipe without one. The values are lent and not a whole colour, since what goes to and from this call has its place in the frame of
+// every run.
+fn run_at(words: &[i32], at: usize, n: usize, count: usize, values: &mut [i32; VALUES])
     ensures { λ _. ⌜ now (values .exit) ≡ formValues count (partOf (now (words .entry)) at n) (now (values .entry)) ⌝ }
 {
     let size = words.len();
@@ -21,11 +23,22 @@ pub fn run_at(words: &[i32], at: usize, n: usize, count: usize, values: &mut [i3
         return;
     }
     let v = *values;
-    let c = Colour {
-        values: v,
-        moved: false,
-    };
-    let after = run(&words[at..at + n], count, c);
-    let u = after.values;
+    let u = run(&words[at..at + n], count, v);
     *values = u;
+}
+
+// Runs the n words from `at` on, as many as there are, on value 0, limited to 0..1; `count` results replace the values from 0. The colour moves where value 0 lies outside. The
+// values are copied, so that they stay in registers in a recipe without a program.
+pub fn step(words: &[i32], at: usize, n: usize, count: usize, c: Colour) -> Colour
+    ensures { λ r. ⌜ r ≡ formStep count (partOf (now (words .entry)) at n) c ⌝ }
+{
+    let moved = c.moved;
+    let mut v = c.values;
+    let x = v[0];
+    run_at(words, at, n, count, &mut v);
+    let outside = is_outside(x, 0, ONE);
+    Colour {
+        values: v,
+        moved: moved | outside,
+    }
 }

@@ -1,19 +1,17 @@
-// Step 12 on a colour.
+// A flat form on the values of a colour.
 ghost use mathlib.Core.Path.{_≡_};
 ghost use Prim.Native.Nat.{_≤_, _-_};
 ghost use lib.ListN.{length};
 ghost use Rattle.fixed.specs.Values.{value, filled};
 ghost use Rattle.stack.specs.Memory.{stackOf};
-ghost use Rattle.form.specs.Steps.{results, formStep};
-use fixed::Colour;
+ghost use Rattle.form.specs.Steps.{results, formValues};
 use fixed::VALUES;
-use fixed::is_outside;
 use fixed::limit;
 use stack::MOST;
 use stack::value_at;
 
 // 1 in millionths.
-const ONE: i32 = 1000000;
+pub const ONE: i32 = 1000000;
 
 // The first n values are those of the stack from the m-th on, upward.
 fn fill(a: &[i32], h: usize, m: usize, n: usize, v: [i32; VALUES]) -> [i32; VALUES]
@@ -41,19 +39,12 @@ fn replace(a: &[i32], h: usize, m: usize, v: [i32; VALUES]) -> [i32; VALUES]
     fill(a, h, m, VALUES, v)
 }
 
-// Runs a flat form on value 0, limited to 0..1; `count` results replace the values from 0. The colour moves where value 0 lies outside.
-pub fn run(words: &[i32], count: usize, c: Colour) -> Colour
-    ensures { λ r. ⌜ r ≡ formStep count (now (words .entry)) c ⌝ }
+// Runs a flat form on value 0, limited to 0..1; `count` results replace the values from 0.
+pub fn run(words: &[i32], count: usize, v: [i32; VALUES]) -> [i32; VALUES]
+    ensures { λ r. ⌜ r ≡ formValues count (now (words .entry)) v ⌝ }
 {
-    let moved = c.moved;
-    let v = c.values;
-    let x = v[0];
     let mut a = [0i32; MOST];
-    a[0] = limit(x, 0, ONE);
+    a[0] = limit(v[0], 0, ONE);
     let h = stack::run(words, &mut a, 1);
-    let u = replace(&a, h, count, v);
-    Colour {
-        values: u,
-        moved: moved | is_outside(x, 0, ONE),
-    }
+    replace(&a, h, count, v)
 }

@@ -1,9 +1,7 @@
 -- The words that are compiled are the program's flat form, which does what the program means.
-use mathlib.Core.Path.{sym, ap, _∙_}
+use mathlib.Core.Path.{ap, _∙_}
 use mathlib.Core.List.{List}
 use lib.IntN.{ℤ}
-use native.Mathlib.Omega.{arith}
-use lib.Seq.{length-take-le}
 use Rattle.program.specs.Texts.{readOf}
 use Rattle.form.specs.Steps.{formStep}
 use Rattle.form.proofs.Filled.{form-is-program}
@@ -19,14 +17,11 @@ slice-aggregate-compile c = search needs
 compile-requires : tie.Need-compile-requires
 compile-requires c κs = search needs
 
-array-share-prefix-words : tie.Need-array-share-prefix-words
-array-share-prefix-words c = search needs
+slice-aggregate-step : tie.Need-slice-aggregate-step
+slice-aggregate-step c = search needs
 
-slice-aggregate-run : tie.Need-slice-aggregate-run
-slice-aggregate-run c = sym (length-take-le _ _ (omega (arith, c .before .before .compile .ensures .1)))
-
-run-requires : tie.Need-run-requires
-run-requires c κs = search needs
+step-requires : tie.Need-step-requires
+step-requires c κs = search needs
 
 returns : tie.Need-returns
 returns c =
@@ -34,7 +29,7 @@ returns c =
     let compiled = after-compile .compile .ensures in
     let entry = after-compile .before .before .before .args in
     let words = compiled .0 ∙ words-code (readOf (entry .text .now)) in
-    c .run .ensures ∙ (ap (λ (ws : List ℤ). formStep (entry .count) ws (entry .c)) words ∙ form-is-program (entry .count) (codeIn (readOf (entry .text .now))) (entry .c))
+    c .step .ensures ∙ (ap (λ (ws : List ℤ). formStep (entry .count) ws (entry .c)) words ∙ form-is-program (entry .count) (codeIn (readOf (entry .text .now))) (entry .c))
 
 pub step-spec : {M : Type 1} → statement M
 step-spec =
@@ -42,7 +37,6 @@ step-spec =
     (tie.spec
     slice-aggregate-compile
     compile-requires
-    array-share-prefix-words
-    slice-aggregate-run
-    run-requires
+    slice-aggregate-step
+    step-requires
     returns)

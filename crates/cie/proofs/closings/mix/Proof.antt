@@ -23,7 +23,7 @@ returns c =
     let k = a .k in
     let t = told .struct-told .given in
     let m = nine .matrix .ensures ∙ (λ i. matrixOf (signed-within (k .xa) (t .1 .1 .1 .0 .1) i) (signed-within (k .ya) (t .1 .1 .1 .1 .0 .1) i) (signed-within (k .za) (t .1 .1 .1 .1 .1 .0 .1) i) (signed-within (k .xb) (t .1 .1 .1 .1 .1 .1 .0 .1) i) (signed-within (k .yb) (t .1 .1 .1 .1 .1 .1 .1 .0 .1) i) (signed-within (k .zb) (t .1 .1 .1 .1 .1 .1 .1 .1 .0 .1) i) (signed-within (k .xc) (t .1 .1 .1 .1 .1 .1 .1 .1 .1 .0 .1) i) (signed-within (k .yc) (t .1 .1 .1 .1 .1 .1 .1 .1 .1 .1 .0 .1) i) (signed-within (k .zc) (t .1 .1 .1 .1 .1 .1 .1 .1 .1 .1 .1 .0 .1) i)) in
-    c .rgb .ensures ∙ ap (λ (x : List (List Float)). rgbXyz x (a .a) (a .b) (a .c)) m
+    c .rgb .ensures ∙ ap (λ (x : List (List Float)). rgbXyz x (a .d .a) (a .d .b) (a .d .c)) m
 
 pub mix-spec : {M : Type 1} → statement M
 mix-spec = tie.close (tie.spec matrix-requires rgb-requires returns)

@@ -2,8 +2,7 @@
 use mathlib.Core.Path.{ap, _∙_}
 use mathlib.Core.List.{List}
 use lib.IntN.{ℤ}
-use Rattle.fixed.specs.declared.values.Colour.{Colour}
-use Rattle.form.specs.Steps.{formStep, formValues}
+use Rattle.form.specs.Steps.{formValues}
 use Rattle.form.proofs.Parts.{part-none, part-rest, part-in}
 use borrow.Author.Needs.{needs}
 use Prim.Native.Nat.{ℕ, _+_, _<_}
@@ -66,12 +65,9 @@ run-at-run-requires : (t : ℕ) → run-at-lts.Need-run-requires (claims t) (run
 run-at-run-requires t c κs = search needs
 
 run-at-returns-3 : (t : ℕ) → run-at-lts.Need-returns-3 (claims t) (run-at-at t) run-at.Post
-unfolding formStep
 run-at-returns-3 t c =
-    let after-run = c .before in
-    let after-v = after-run .before .before in
-    let a = after-v .before .before .before .args in
-    ap (λ (k : Colour). k .values) (after-run .run .ensures) ∙ ap (λ (l : List ℤ). formValues (a .count) l (a .values .now)) (part-in (a .words .now) (a .at) (a .n))
+    let a = c .before .before .before .before .before .args in
+    c .run .ensures ∙ ap (λ (l : List ℤ). formValues (a .count) l (a .values .now)) (part-in (a .words .now) (a .at) (a .n))
 
 pub +run-at-spec : {M : Type 1} → statement M
 +run-at-spec = close μ-run-at λ t. run-at-lts.spec (claims t)

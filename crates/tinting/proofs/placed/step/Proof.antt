@@ -1,10 +1,10 @@
--- The values are those that the program leaves; the tint that it takes, value 0, moves the colour where it lies outside.
+-- The values are those that the words leave; the tint that they take, value 0, moves the colour where it lies outside.
 use Rattle.fixed.specs.Values.{value}
 use Rattle.fixed.proofs.Signs.{signed-within}
-use Rattle.tinting.proofs.Made.{values-made}
+use Rattle.tinting.proofs.Made.{form-made}
 use borrow.Author.Needs.{needs}
-use Rattle.acts.proofs.acting.program_step.Statement.{statement}
-use Rattle.acts.proofs.acting.program_step.Tie as tie
+use Rattle.tinting.proofs.placed.step.Statement.{statement}
+use Rattle.tinting.proofs.placed.step.Tie as tie
 
 array-copy-out-x : tie.Need-array-copy-out-x
 array-copy-out-x c = search needs
@@ -20,8 +20,8 @@ returns c =
     let after-run-at = c .before in
     let after-x = after-run-at .before .before in
     let a = after-x .before .before .args in
-    values-made (a .c) (a .m) _ _ (after-run-at .run-at .ensures) (c .is-outside .ensures) (signed-within (value (a .c .values) 0) (after-x .x .given))
+    form-made (a .c) (a .count) _ _ (after-run-at .run-at .ensures) (c .is-outside .ensures) (signed-within (value (a .c .values) 0) (after-x .x .given))
 
-pub program-step-spec : {M : Type 1} → statement M
-program-step-spec =
+pub step-spec : {M : Type 1} → statement M
+step-spec =
     tie.close (tie.spec array-copy-out-x run-at-requires is-outside-requires returns)
