@@ -58,7 +58,7 @@ pub fn close_lab(k: LabClosing, l: i32, a: i32, b: i32) -> Xyz
     lab(white(k.xw, k.zw), l, a, b)
 }
 
-// What the values answer at a closing step that has no numbers: a device space's, that of None or of All, or that of no space.
+// What the values answer at a closing step that has no numbers: a device space's, that of None or of All, or that of no space. One that has numbers gets 8, as that of no space.
 pub fn close_bare(k: Closing, a: i32, b: i32, c: i32, d: i32) -> Answer
     ensures { λ r. ⌜ ((m : Bool) → said r m ≡ closedBy (bareOf k) (a ∷ b ∷ c ∷ d ∷ []) m) ⌝ }
 {

@@ -1,2 +1,2 @@
--- Laws of step 12 that proofs cite, here and in `acts`.
+-- Laws of step 12 that proofs cite.
 pub mod Made

@@ -7,9 +7,9 @@ use fixed::Colour;
 use fixed::VALUES;
 use fixed::is_outside;
 
-// Runs the n words from `at` on, as many as there are, on the values. The function calls itself, and so stays a function of its own when it is compiled: the stack takes memory
-// only while a step 12 is run, and none in a recipe without one. The values are lent and not a whole colour, since what goes to and from this call has its place in the frame of
-// every run.
+// The n words from `at` on, as many as there are, on the values. The function calls itself, and so stays a function of its own when it is compiled: the stack takes memory only
+// while a program is run, and none in a recipe without one. The values are lent and not a whole colour, since what goes to and from this call has its place in the frame of every
+// run of a recipe.
 fn run_at(words: &[i32], at: usize, n: usize, count: usize, values: &mut [i32; VALUES])
     ensures { λ _. ⌜ now (values .exit) ≡ formValues count (partOf (now (words .entry)) at n) (now (values .entry)) ⌝ }
 {
@@ -27,8 +27,8 @@ fn run_at(words: &[i32], at: usize, n: usize, count: usize, values: &mut [i32; V
     *values = u;
 }
 
-// Runs the n words from `at` on, as many as there are, on value 0, limited to 0..1; `count` results replace the values from 0. The colour moves where value 0 lies outside. The
-// values are copied, so that they stay in registers in a recipe without a program.
+// Step 12 of the n words from `at` on, as many as there are, with `count` results. The colour moves where the tint, value 0, lies outside 0..1. The values are copied, so that they
+// stay in registers in a recipe without a program.
 pub fn step(words: &[i32], at: usize, n: usize, count: usize, c: Colour) -> Colour
     ensures { λ r. ⌜ r ≡ formStep count (partOf (now (words .entry)) at n) c ⌝ }
 {

@@ -66,7 +66,8 @@ run-at-run-requires t c κs = search needs
 
 run-at-returns-3 : (t : ℕ) → run-at-lts.Need-returns-3 (claims t) (run-at-at t) run-at.Post
 run-at-returns-3 t c =
-    let a = c .before .before .before .before .before .args in
+    let after-v = c .before .before in
+    let a = after-v .before .before .before .args in
     c .run .ensures ∙ ap (λ (l : List ℤ). formValues (a .count) l (a .values .now)) (part-in (a .words .now) (a .at) (a .n))
 
 pub +run-at-spec : {M : Type 1} → statement M
