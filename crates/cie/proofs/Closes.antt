@@ -10,7 +10,8 @@ use Rattle.fixed.specs.Values.{value}
 use Rattle.cie.specs.declared.Closing.{Closing}
 use Rattle.cie.specs.declared.Closing.the-variants.{Nothing, Gray, Rgb, Cmyk, CalGray, CalRgb, Lab, NoMark, EveryInk}
 use Rattle.cie.specs.Answers.{refusal}
-use Rattle.cie.specs.Closings.{bareOf, closedBy}
+use Rattle.cie.specs.Bare.{bareOf}
+use Rattle.cie.specs.Closings.{closedBy}
 use Rattle.cie.proofs.Closing as ClosingEnum
 
 pub closed-four : (k : Closing) (v : List ℤ) (m : Bool) → closedBy k (value v 0 ∷ value v 1 ∷ value v 2 ∷ value v 3 ∷ []) m ≡ closedBy k v m

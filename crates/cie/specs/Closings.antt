@@ -55,15 +55,3 @@ closedBy EveryInk v m = answer everyInk (float (value v 0) ∷ []) m
 -- what a colour replies at its closing step, which limits nothing and hands the flag on
 abbrev pub closed : Closing → Colour → Reply
 closed k c = closedBy k (c .values) (c .moved)
-
--- a closing step that has no numbers, as it is; in place of any other that of no space
-unfoldable pub bareOf : Closing → Closing
-bareOf Nothing = Nothing
-bareOf Gray = Gray
-bareOf Rgb = Rgb
-bareOf Cmyk = Cmyk
-bareOf (CalGray k) = Nothing
-bareOf (CalRgb k) = Nothing
-bareOf (Lab k) = Nothing
-bareOf NoMark = NoMark
-bareOf EveryInk = EveryInk

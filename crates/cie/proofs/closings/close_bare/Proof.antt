@@ -4,7 +4,8 @@ use mathlib.Core.List.{[], _∷_}
 use Rattle.fixed.specs.Numbers.{float}
 use Rattle.fixed.proofs.Signs.{signed-back}
 use Rattle.cie.specs.Answers.{answer, inGray, inRgb, inCmyk, everyInk}
-use Rattle.cie.specs.Closings.{bareOf, closedBy}
+use Rattle.cie.specs.Bare.{bareOf}
+use Rattle.cie.specs.Closings.{closedBy}
 use Rattle.cie.proofs.Closes.{others-refused}
 use borrow.Author.Needs.{needs}
 use Rattle.cie.proofs.closings.close_bare.Statement.{statement}
