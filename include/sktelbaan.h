@@ -87,7 +87,8 @@ enum sktelbaan_kinds {
     SKTELBAAN_KIND_INDEXED = 4,
     SKTELBAAN_KIND_SEPARATION = 5,
     SKTELBAAN_KIND_PALETTE = 6,
-    SKTELBAAN_KIND_PROGRAM = 7
+    SKTELBAAN_KIND_PROGRAM = 7,
+    SKTELBAAN_KIND_DEVICEN = 8
 };
 
 /* A record is 20 numbers and 504 bytes. Number [0] is the block's own number on its page, [1] its kind, and from [2] on, the others being 0:
@@ -97,16 +98,18 @@ enum sktelbaan_kinds {
  *     Lab           white X Y Z, black X Y Z, range amin amax bmin bmax
  *     Indexed       base, hival
  *     Separation    alternate, exponent, length of the name, C0 (four), C1 (four)
+ *     DeviceN       alternate, count of names
  *
- * Base and alternate are a block's number or a device code. They, hival, the exponent and the length count units; the others are in millionths, so a gamma
+ * Base and alternate are a block's number or a device code. They, hival, the exponent, the length and the count of names count units; the others are in millionths, so a gamma
  * of 1.8 is 1800000. An exponent of 0 means that a program makes the alternate's components of the tint: its text lies in one to four blocks of kind
- * SKTELBAAN_KIND_PROGRAM straight after the Separation's, and C0 and C1 are then 0.
- * The bytes are a Separation's name in the first 127, or a part of a palette or of a program's text in all 504; the others are 0. A program block by itself may
+ * SKTELBAAN_KIND_PROGRAM straight after the Separation's, and C0 and C1 are then 0. A DeviceN always has such a program, of as many tints as it has names.
+ * The bytes are a Separation's name in the first 127, a DeviceN's names in the first 500, each its length and then its bytes, straight one after the other, or a
+ * part of a palette or of a program's text in all 504; the others are 0. A program block by itself may
  * hold any bytes: its program is looked at on its page. */
 enum { SKTELBAAN_RECORD_NUMBERS = 20, SKTELBAAN_RECORD_BYTES = 504 };
 
 /* Writes a record as a block, with its check; `block_len` is 512. Refuses with the first that applies of 10, 3, 4, 5, 6. Gives 0. A number of
- * any 32 bits has its refusal: 3 for an own number, a kind or the length of a name that no record has, and for a number that the kind does not name and that is
+ * any 32 bits has its refusal: 3 for an own number, a kind, the length of a name or a count of names that no record has, and for a number that the kind does not name and that is
  * not 0; 4 for hival, 5 for the exponent, 6 for base and alternate. What is written reads back as the same 20 numbers and 504 bytes. */
 uint64_t sktelbaan_write_block(const int32_t numbers[20], const uint8_t bytes[504], uint8_t *block, size_t block_len) SKTELBAAN_NEVER_NULL;
 

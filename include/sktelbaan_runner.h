@@ -63,22 +63,23 @@ enum sktelbaan_refusals {
     SKTELBAAN_REFUSED_LENGTH = 1,
     /* The check stored in a block is not that of its bytes: the block was damaged, or changed without writing its check anew. */
     SKTELBAAN_REFUSED_CHECK = 2,
-    /* A block's kind is unknown, its own number is not that of its place, a byte is not zero that must be, or a Separation's name is not 1 to 127 bytes
-     * with no zero among them. */
+    /* A block's kind is unknown, its own number is not that of its place, a byte is not zero that must be, a Separation's name is not 1 to 127 bytes with no
+     * zero among them, or a DeviceN has not 1 to 8 names of 1 to 48 such bytes. */
     SKTELBAAN_REFUSED_LAYOUT = 3,
     /* A number is none that PDF allows: white X or Z not above 0 or white Y not 1, a black point below 0, a CalGray gamma not above 0, a range whose low
-     * end is above its high end, or hival above 255. */
+     * end is above its high end, or hival above 255. Or a DeviceN has two equal names other than None, or the name All. */
     SKTELBAAN_REFUSED_NUMBER = 4,
     /* A gamma or an exponent is none that is carried here: a gamma not 0.1 to 4.0 in whole tenths, an exponent not 1 to 4, nor 0 for a program. */
     SKTELBAAN_REFUSED_POWER = 5,
     /* A reference is neither a device code nor a block of the page, or the block is of a kind that may not be used there. */
     SKTELBAAN_REFUSED_REFERENCE = 6,
     /* An Indexed space has too few palette blocks straight after it, or its palette's spare bytes are not zero; a palette block belongs to no Indexed space;
-     * a Separation with exponent 0 has no program block straight after it, or its program's blocks are not filled with text up to a first zero and zeros
-     * after that, or one of them is all zeros; a program block belongs to no such Separation, or is the fifth after it; or C0 or C1 of a Separation has a
+     * a Separation with exponent 0 or a DeviceN has no program block straight after it, or its program's blocks are not filled with text up to a first zero and
+     * zeros after that, or one of them is all zeros; a program block belongs to neither, or is the fifth after it; or C0 or C1 of a Separation has a
      * number other than 0 beyond what its alternate space has components, or beside a program any at all. */
     SKTELBAAN_REFUSED_PALETTE = 7,
-    /* The number asked for is neither a device code nor a block that holds a space, kinds 1 to 5; or, of an ink asked for by its name, neither page has one. */
+    /* The number asked for is neither a device code nor a block that holds a space, kinds 1 to 5 and 8; or, of an ink asked for by its name, neither page has one.
+     */
     SKTELBAAN_REFUSED_SPACE = 8,
     /* More or fewer components were given than the space or the recipe takes. */
     SKTELBAAN_REFUSED_COUNT = 9,
@@ -94,7 +95,7 @@ enum sktelbaan_refusals {
     SKTELBAAN_REFUSED_TEXT_KEY = 14,
     /* Its spaces take more than SKTELBAAN_MOST_BLOCKS blocks. */
     SKTELBAAN_REFUSED_TEXT_BLOCKS = 15,
-    /* A Separation's program has a token that is unknown, a number that is too large or has more than six digits after the point, more than 400 tokens, or
+    /* The program of a Separation or a DeviceN has a token that is unknown, a number that is too large or has more than six digits after the point, more than 400 tokens, or
      * braces that do not nest: more than 8 deep, without their partner, or without if or ifelse straight after them. */
     SKTELBAAN_REFUSED_PROGRAM_SYNTAX = 16,
     /* Its stack goes below 0 or past 100, is not the same after both branches, or does not end with as many numbers as the alternate space has components;
@@ -107,11 +108,11 @@ static inline const char *sktelbaan_refusal_text(uint32_t refusal) {
     static const char *const texts[] = {
         "the page is not 1 to " SKTELBAAN_SPELLED(SKTELBAAN_MOST_BLOCKS) " blocks of 512 bytes",
         "a block's check is not that of its bytes",
-        "a block of unknown kind, with a wrong own number, a byte that should be zero, or a bad name",
-        "a white point, black point, gamma, range or hival that PDF does not allow",
+        "a block of unknown kind, with a wrong own number, a byte that should be zero, a bad name, or not 1 to 8 names of a DeviceN",
+        "a white point, black point, gamma, range or hival that PDF does not allow; or a DeviceN with equal names, or with All among them",
         "a gamma that is not 0.1 to 4.0 in whole tenths, or an exponent that is not 0 to 4",
         "a reference to no block of the page, or to a kind that may not be used there",
-        "a palette too short, with spare bytes not zero, or of no Indexed space; a program missing, badly filled, or of no Separation; or C0 or C1 longer than the alternate's colours, or beside a program",
+        "a palette too short, with spare bytes not zero, or of no Indexed space; a program missing, badly filled, or of no Separation or DeviceN; or C0 or C1 longer than the alternate's colours, or beside a program",
         "the number asked for is neither a device code nor a block with a space; or neither page has an ink of that name",
         "the wrong number of components",
         "too few words for the recipe, or not 512 bytes for a block",
@@ -136,7 +137,7 @@ enum sktelbaan_answers {
     SKTELBAAN_CMYK = 3,
     /* CIE X, Y, Z: three floats. */
     SKTELBAAN_XYZ = 4,
-    /* Nothing is to be marked: no float. This is the answer of a Separation named None, whatever its tint. */
+    /* Nothing is to be marked: no float. This is the answer of a Separation named None, whatever its tint, and of a DeviceN all of whose names are None. */
     SKTELBAAN_NO_MARK = 5,
     /* Every ink that the device has, at one tint: one float, 0 to 1. This is the answer of a Separation named All. */
     SKTELBAAN_EVERY_INK = 6
@@ -159,11 +160,15 @@ static inline uint32_t sktelbaan_floats(uint32_t value) {
 }
 
 /* How many words a recipe has at most: every recipe that is written fits so many, and more words are no recipe. */
-enum { SKTELBAAN_MOST_WORDS = 1084 };
+enum { SKTELBAAN_MOST_WORDS = 2877 };
 
-/* How many bytes of the machine's stack a run takes at most, below its caller: so many where the recipe has a program, step 12; a recipe without one takes
- * less than 1,000. Measured on x86-64 by samples/stack.c, which fails where more are taken. */
-enum { SKTELBAAN_MOST_STACK = 20480 };
+/* How many components a recipe takes at most. */
+enum { SKTELBAAN_MOST_COMPONENTS = 8 };
+
+/* How many bytes of the machine's stack a run takes at most, below its caller: of a recipe that was written for a page, and of any words, which may have a
+ * longer program than a page has (more than 796 words of a step 12 or 13). A recipe without a program takes less than 1,000. Measured on x86-64 by
+ * samples/stack.c, which fails where more are taken. */
+enum { SKTELBAAN_MOST_STACK = 20480, SKTELBAAN_MOST_STACK_OF_ANY = 52000 };
 
 /* The library itself is never given NULL: compilers that know the mark say so where they see one. */
 #ifdef __GNUC__

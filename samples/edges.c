@@ -263,17 +263,26 @@ static void sizes(void) {
         expect("the last reference", sktelbaan_write_block(over, bytes, page, SKTELBAAN_BLOCK_BYTES) == (more ? SKTELBAAN_REFUSED_REFERENCE : 0));
     }
 
-    /* One component, limited to 0..0 again and again; then Lab's closing step of three words, or CalGray's of four. */
+    /* One component, limited to 0..0 again and again; then CalGray's closing step of four words, or one limit more and Gray's of one. */
     words[0] = 1;
-    for (int i = 1; i < SKTELBAAN_MOST_WORDS - 3; i += 4)
+    for (int i = 1; i < SKTELBAAN_MOST_WORDS - 4; i += 4)
         words[i] = 1;
-    words[SKTELBAAN_MOST_WORDS - 3] = 9;
+    words[SKTELBAAN_MOST_WORDS - 4] = 7;
+    words[SKTELBAAN_MOST_WORDS - 1] = 1000000;
     expect("the most words", sktelbaan_value(sktelbaan_run(words, SKTELBAAN_MOST_WORDS, colour, 1, floats)) == SKTELBAAN_XYZ);
-    words[SKTELBAAN_MOST_WORDS - 3] = 7;
-    words[SKTELBAAN_MOST_WORDS] = 1000000;
+    words[SKTELBAAN_MOST_WORDS - 4] = 1;
+    words[SKTELBAAN_MOST_WORDS] = 4;
     expect("a word more", sktelbaan_run(words, SKTELBAAN_MOST_WORDS + 1, colour, 1, floats) == SKTELBAAN_REFUSED_RECIPE);
     words[4] = 1;
-    expect("the same with a step less", sktelbaan_value(sktelbaan_run(words + 4, SKTELBAAN_MOST_WORDS - 3, colour, 1, floats)) == SKTELBAAN_XYZ);
+    expect("the same with a step less", sktelbaan_value(sktelbaan_run(words + 4, SKTELBAAN_MOST_WORDS - 3, colour, 1, floats)) == SKTELBAAN_GRAY);
+
+    /* As many components as there may be, and one more. */
+    static const int32_t many[SKTELBAAN_MOST_COMPONENTS + 1] = {0};
+    for (int32_t more = 0; more < 2; more++) {
+        const int32_t counted[2] = {SKTELBAAN_MOST_COMPONENTS + more, 4};
+        reply = sktelbaan_run(counted, 2, many, (size_t)counted[0], floats);
+        expect("the most components", more ? reply == SKTELBAAN_REFUSED_RECIPE : sktelbaan_value(reply) == SKTELBAAN_GRAY);
+    }
 
     /* A program that fills a recipe, and one that is a word longer: a number is put on and taken off again and again, then neg. */
     static const int32_t item[3] = {1, 5, 23};
@@ -303,12 +312,15 @@ static void records(void) {
         {5, SKTELBAAN_KIND_SEPARATION, SKTELBAAN_DEVICE_CMYK, 4, 4, 1, 2, 3, 4, 5, 6, 7, 8},
         {5, SKTELBAAN_KIND_PALETTE},
         {5, SKTELBAAN_KIND_PROGRAM},
+        {5, SKTELBAAN_KIND_DEVICEN, SKTELBAAN_DEVICE_CMYK, 2},
     };
-    for (int32_t kind = SKTELBAAN_KIND_FREE; kind <= SKTELBAAN_KIND_PROGRAM; kind++) {
+    for (int32_t kind = SKTELBAAN_KIND_FREE; kind <= SKTELBAAN_KIND_DEVICEN; kind++) {
         uint8_t bytes[SKTELBAAN_RECORD_BYTES] = {0}, block[SKTELBAAN_BLOCK_BYTES], found[SKTELBAAN_RECORD_BYTES];
         int32_t numbers[SKTELBAAN_RECORD_NUMBERS];
         if (kind == SKTELBAAN_KIND_SEPARATION)
             memcpy(bytes, "Gold", 4);
+        if (kind == SKTELBAAN_KIND_DEVICEN)
+            memcpy(bytes, "\4Blue\4Buff", 10);
         if (kind == SKTELBAAN_KIND_PALETTE || kind == SKTELBAAN_KIND_PROGRAM)
             memset(bytes, 0xff, sizeof bytes);
         expect("a record is written", sktelbaan_write_block(rows[kind], bytes, block, sizeof block) == 0);

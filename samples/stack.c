@@ -1,8 +1,8 @@
 /* stack
  *
  * Measures how much of the machine's stack running a recipe takes: Gray, which calls least; CalRGB with gammas of tenths, which calls deepest of those without
- * a program; and the longest that has a program. Prints all three, and fails where one takes more than the header says. It links libsktelbaan_runner.a alone,
- * as a plate setter does.
+ * a program; a recipe with the longest program that a page can have; and the longest that has a program. Prints all four, and fails where one takes more than
+ * the header says. It links libsktelbaan_runner.a alone, as a plate setter does.
  */
 #include "sktelbaan_runner.h"
 
@@ -11,7 +11,7 @@
 #include <stdlib.h>
 #include <string.h>
 
-enum { ROOM = 1 << 20, PAINT = 0xA5, PLAIN = 999 };
+enum { ROOM = 1 << 20, PAINT = 0xA5, PLAIN = 999, PAGE_WORDS = 796 };
 
 /* What a thread is to run, on how many components, how many bytes it may take, and where its stack stood when it did. */
 struct job {
@@ -54,34 +54,45 @@ static size_t touched(struct job *job) {
     return bytes;
 }
 
+/* A recipe of one component with a program of so many words: dup and pop in turn, and one word that leaves all as it is where their count is odd. Gives its
+ * length. */
+static size_t with_program(int32_t *recipe, int32_t words) {
+    size_t n = 0;
+    recipe[n++] = 1;
+    recipe[n++] = 12;
+    recipe[n++] = 1;
+    recipe[n++] = words;
+    if (words % 2 != 0)
+        recipe[n++] = 19;
+    for (int32_t k = 0; k < words / 2; k++) {
+        recipe[n++] = 25;
+        recipe[n++] = 23;
+    }
+    recipe[n++] = 4;
+    return n;
+}
+
 int main(void) {
     static const int32_t gray[] = {1, 1, 0, 0, 1000000, 4};
     static const int32_t decoded[] = {3, 8, 2200000, 1800000, 2200000, 412400, 212600, 19300, 357600, 715200, 119200, 180500, 72200, 950500};
-    static int32_t longest[SKTELBAAN_MOST_WORDS];
-    size_t n = 0;
-    /* 1 input; 12, one number left, and as many words as there is room for before the closing step: dup and pop in turn. */
-    longest[n++] = 1;
-    longest[n++] = 12;
-    longest[n++] = 1;
-    longest[n++] = SKTELBAAN_MOST_WORDS - 6;
-    while (n < SKTELBAAN_MOST_WORDS - 2) {
-        longest[n++] = 25;
-        longest[n++] = 23;
-    }
-    longest[n++] = 4;
+    static int32_t page[SKTELBAAN_MOST_WORDS], longest[SKTELBAAN_MOST_WORDS];
+    size_t page_len = with_program(page, PAGE_WORDS);
+    size_t longest_len = with_program(longest, SKTELBAAN_MOST_WORDS - 5);
     struct job jobs[] = {
         {gray, sizeof gray / sizeof *gray, 1, PLAIN, 0, NULL},
         {decoded, sizeof decoded / sizeof *decoded, 3, PLAIN, 0, NULL},
-        {longest, n, 1, SKTELBAAN_MOST_STACK, 0, NULL},
+        {page, page_len, 1, SKTELBAAN_MOST_STACK, 0, NULL},
+        {longest, longest_len, 1, SKTELBAAN_MOST_STACK_OF_ANY, 0, NULL},
     };
-    size_t bytes[3];
-    for (size_t i = 0; i < 3; i++) {
+    enum { JOBS = sizeof jobs / sizeof *jobs };
+    size_t bytes[JOBS];
+    for (size_t i = 0; i < JOBS; i++) {
         bytes[i] = touched(&jobs[i]);
         if (sktelbaan_refusal(jobs[i].reply) != 0 || bytes[i] > jobs[i].most) {
             fprintf(stderr, "stack: recipe %zu is refused, or takes %zu bytes\n", i, bytes[i]);
             return 1;
         }
     }
-    printf("stack without a program %zu, decoding tenths %zu, with a program of %d words %zu\n", bytes[0], bytes[1], longest[3], bytes[2]);
+    printf("stack without a program %zu, decoding tenths %zu, with a page's longest program %zu, with the longest of all %zu\n", bytes[0], bytes[1], bytes[2], bytes[3]);
     return 0;
 }

@@ -53,7 +53,7 @@ pub const DEVICE_RGB: u32 = 0xff03;
 /// The number that asks for DeviceCMYK.
 pub const DEVICE_CMYK: u32 = 0xff04;
 /// How many words a recipe has at most: every recipe that is written fits so many, and more words are no recipe.
-pub const LONGEST: usize = 1084;
+pub const LONGEST: usize = 2877;
 
 /// The answer to a colour: what it is in, and its floats.
 ///
@@ -67,7 +67,8 @@ pub const LONGEST: usize = 1084;
 /// assert_ne!(Answer::Rgb([0.0; 3]), Answer::Xyz([0.0; 3]));
 /// ```
 ///
-/// A Separation named None marks nothing, and one named All is every ink of the device at one tint:
+/// A Separation named None marks nothing, nor does a DeviceN whose names are all None; a Separation named All is
+/// every ink of the device at one tint:
 ///
 /// ```
 /// use sktelbaan::{evaluate, Answer};
@@ -86,7 +87,8 @@ pub enum Answer {
     Cmyk([f64; 4]),
     /// CIE X, Y, Z.
     Xyz([f64; 3]),
-    /// Nothing is to be marked: the answer of a Separation named None. It has no float.
+    /// Nothing is to be marked: the answer of a Separation named None, and of a DeviceN whose names are
+    /// all None. It has no float.
     NoMark,
     /// Every ink of the device, at this tint: the answer of a Separation named All.
     EveryInk(f64),
@@ -191,11 +193,11 @@ pub struct Refusal {
 const MEANINGS: [&str; 17] = [
     concat!("the page is not 1 to ", most_blocks!(), " blocks of 512 bytes"),
     "a block's check is not that of its bytes",
-    "a block of unknown kind, with a wrong own number, a byte that should be zero, or a bad name",
-    "a white point, black point, gamma, range or hival that PDF does not allow",
+    "a block of unknown kind, with a wrong own number, a byte that should be zero, a bad name, or not 1 to 8 names of a DeviceN",
+    "a white point, black point, gamma, range or hival that PDF does not allow; or a DeviceN with equal names, or with All among them",
     "a gamma that is not 0.1 to 4.0 in whole tenths, or an exponent that is not 0 to 4",
     "a reference to no block of the page, or to a kind that may not be used there",
-    "a palette too short, with spare bytes not zero, or of no Indexed space; a program missing, badly filled, or of no Separation; or C0 or C1 longer than the alternate's colours, or beside a program",
+    "a palette too short, with spare bytes not zero, or of no Indexed space; a program missing, badly filled, or of no Separation or DeviceN; or C0 or C1 longer than the alternate's colours, or beside a program",
     "the number asked for is neither a device code nor a block with a space; or neither page has an ink of that name",
     "the wrong number of components",
     "too few words for the recipe, or not 512 bytes for a block",
@@ -284,7 +286,8 @@ pub fn validate(page: &[u8]) -> Result<(), Refusal> {
     given(reply).map(|_| ())
 }
 
-/// Evaluates a colour of the space at a number of a page, a block's number or a device code.
+/// Evaluates a colour of the space at a number of a page, a block's number or a device code. A colour
+/// of a DeviceN has a component for each of its names, 1 to 8.
 /// Refusals of [`validate`], then 8, then 9. The page is validated each time.
 ///
 /// ```
@@ -446,6 +449,13 @@ mod tests {
         assert_eq!(run_into(&[1, 4], &[]), (9, MARKS));
         assert_eq!(run_into(&[1, 4, 4], &[half]), (11, MARKS));
         assert_eq!(run_into(&[], &[]), (11, MARKS));
+        // Eight components, of which step 13 takes all and leaves their sum; the others stay as they were.
+        let eight = [&[8, 13, 8, 1, 7][..], &[7; 7], &[6]].concat();
+        let colour = [half, 1_500_000, -half, 0, 0, 0, 0, half];
+        let (reply, floats) = run_into(&eight, &colour);
+        assert_eq!((reply, floats), (1 << 63 | 3 << 32, [2.0, 1.5, -0.5, 0.0]));
+        assert_eq!(run_into(&eight, &colour[1..]), (9, MARKS));
+        assert_eq!(run_into(&[9, 4], &[half; 9]), (11, MARKS));
     }
 
     #[test]
@@ -475,6 +485,25 @@ mod tests {
         second[1023] = 1;
         let reply = 2 | (1 << 32);
         assert_eq!(evaluate_into(&second, DEVICE_GRAY, &[]), (reply, MARKS));
+    }
+
+    #[test]
+    fn a_map_of_two_inks() {
+        let page = include_bytes!("../../samples/map.page");
+        assert_eq!(validate(page), Ok(()));
+        let [c, m, y, k] = [0.235, 0.2125, 0.2125, 0.00625];
+        let colour = evaluate(page, 0, &[250_000, 500_000]).unwrap();
+        assert_eq!(colour.answer, Answer::Cmyk([c, m, y, k]));
+        let words = recipe(page, 0).unwrap();
+        assert_eq!((words.len(), &words[..4]), (67, &[2, 13, 2, 4][..]));
+        assert_eq!(run(&words, &[250_000, 500_000]), Ok(colour));
+        for count in [0, 1, 3, 8, 9] {
+            let refusal = evaluate(page, 0, &vec![0; count]).unwrap_err();
+            assert_eq!((refusal.number, refusal.block), (9, 0));
+        }
+        assert_eq!(evaluate(page, 9, &[7; 2]).unwrap().answer, Answer::NoMark);
+        let record = read_block(&page[..512]).unwrap();
+        assert_eq!(record.names(), [b"Blue", b"Buff"]);
     }
 
     #[test]

@@ -64,17 +64,25 @@ pub enum Body {
     Palette,
     /// Kind 7: a part of a program's text, kept in the record's bytes. By itself it may be any bytes.
     Program,
+    /// Kind 8: a DeviceN space; its names are kept in the record's bytes, each after a byte with its length, and
+    /// its program lies in the blocks straight after it.
+    DeviceN {
+        /// The reference to the alternate space.
+        alternate: u16,
+        /// How many names there are, 1 to 8.
+        count: u8,
+    },
 }
 
-/// One record: the block's own number, what it records, and the bytes of a name, a palette or a program.
+/// One record: the block's own number, what it records, and the bytes of names, a palette or a program.
 #[derive(Clone, Copy, Debug, PartialEq, Eq, Hash)]
 pub struct Record {
     /// The block's own number, below [`MOST_BLOCKS`](crate::MOST_BLOCKS) in an accepted record.
     pub number: u16,
     /// What the block records.
     pub body: Body,
-    /// A Separation's name in the first 128 places, a palette's or a program's bytes in all 504; every
-    /// other place is zero.
+    /// A Separation's name in the first 128 places, a DeviceN's names in the first 500, a palette's or a
+    /// program's bytes in all 504; every other place is zero.
     pub bytes: [u8; 504],
 }
 
@@ -122,11 +130,48 @@ impl Record {
             }
             Body::Palette => vec![number, 6],
             Body::Program => vec![number, 7],
+            Body::DeviceN { alternate, count } => {
+                vec![number, 8, i32::from(*alternate), i32::from(*count)]
+            }
         };
         for (place, v) in numbers.iter_mut().zip(row) {
             *place = v;
         }
         numbers
+    }
+
+    /// The names of a DeviceN in their order, or the name of a Separation; none for a record of another
+    /// kind. Any record is answered: a name that the record's bytes end within is left out, with those
+    /// after it.
+    ///
+    /// ```
+    /// use sktelbaan::{Body, Record};
+    /// let mut bytes = [0; 504];
+    /// bytes[..10].copy_from_slice(b"\x04Blue\x04Buff");
+    /// let body = Body::DeviceN { alternate: 0xff04, count: 2 };
+    /// let map = Record { number: 0, body, bytes };
+    /// assert_eq!(map.names(), [b"Blue", b"Buff"]);
+    /// assert!(Record { body: Body::Palette, ..map }.names().is_empty());
+    /// ```
+    pub fn names(&self) -> Vec<&[u8]> {
+        match self.body {
+            Body::Separation { name_length, .. } => {
+                vec![&self.bytes[..usize::from(name_length)]]
+            }
+            Body::DeviceN { count, .. } => {
+                let mut rest = &self.bytes[..];
+                let mut names = Vec::new();
+                for _ in 0..count {
+                    let Some((name, after)) = first_name(rest) else {
+                        break;
+                    };
+                    names.push(name);
+                    rest = after;
+                }
+                names
+            }
+            _ => Vec::new(),
+        }
     }
 
     /// The record of numbers that a block was read as: each fits its field.
@@ -163,7 +208,11 @@ impl Record {
             },
             6 => Body::Palette,
             7 => Body::Program,
-            other => unreachable!("a record is of one of eight kinds, not of {other}"),
+            8 => Body::DeviceN {
+                alternate: v[0] as u16,
+                count: v[1] as u8,
+            },
+            other => unreachable!("a record is of one of nine kinds, not of {other}"),
         };
         Record {
             number: number as u16,
@@ -171,6 +220,12 @@ impl Record {
             bytes,
         }
     }
+}
+
+/// The name at the head of packed names, and the bytes after it; none where they end within it.
+fn first_name(bytes: &[u8]) -> Option<(&[u8], &[u8])> {
+    let (length, rest) = bytes.split_first()?;
+    rest.split_at_checked(usize::from(*length))
 }
 
 /// Writes a record as a block, check and all. Refusals 3 to 6.
@@ -200,14 +255,31 @@ impl Record {
 /// assert_eq!(evaluate(&page, 0, &[500_000])?.answer, Answer::Gray(0.25));
 /// # Ok::<(), sktelbaan::Refusal>(())
 /// ```
+///
+/// A page of a DeviceN of two inks over DeviceGray, whose program takes both tints, the first deepest:
+///
+/// ```
+/// use sktelbaan::{evaluate, write_block, Answer, Body, Record};
+/// let of = |text: &[u8]| std::array::from_fn(|k| text.get(k).copied().unwrap_or(0));
+/// let body = Body::DeviceN { alternate: 0xff01, count: 2 };
+/// let map = Record { number: 0, body, bytes: of(b"\x04Blue\x04Buff") };
+/// let program = Record { number: 1, body: Body::Program, bytes: of(b"{ 0.5 mul sub }") };
+/// let page = [write_block(&map)?, write_block(&program)?].concat();
+/// assert_eq!(evaluate(&page, 0, &[750_000, 500_000])?.answer, Answer::Gray(0.5));
+///
+/// // Two names that are equal, and All among them, are refused.
+/// let equal = Record { bytes: of(b"\x04Blue\x04Blue"), ..map };
+/// assert_eq!(write_block(&equal).unwrap_err().number, 4);
+/// # Ok::<(), sktelbaan::Refusal>(())
+/// ```
 pub fn write_block(record: &Record) -> Result<[u8; 512], Refusal> {
     write_numbers(&record.numbers(), &record.bytes)
 }
 
 /// Writes a record that is passed as C passes it: its own number, its kind, its body's numbers in the
 /// order of [`Body`]'s fields, zeros; and its bytes. A number of any 32 bits gets its refusal: 3 for an
-/// own number, a kind, a name's length or a number that the kind does not name, 4 for hival, 5 for an
-/// exponent, 6 for a reference.
+/// own number, a kind, a name's length, a count of names or a number that the kind does not name, 4 for
+/// hival, 5 for an exponent, 6 for a reference.
 ///
 /// ```
 /// use sktelbaan::{read_numbers, write_numbers};
@@ -307,7 +379,9 @@ mod tests {
         let zeros = [0; 504];
         let mut name = zeros;
         name[..3].copy_from_slice(b"Ink");
-        let rows: [(&[i32], [u8; 504]); 9] = [
+        let mut names = zeros;
+        names[..15].copy_from_slice(b"\x04Blue\x04None\x04None");
+        let rows: [(&[i32], [u8; 504]); 10] = [
             (&[MOST - 1, 0], zeros),
             (&[1, 1, 5, one, 7, 0, 1, 2, 2 * one], zeros),
             (
@@ -325,6 +399,7 @@ mod tests {
             (&[6, 6], std::array::from_fn(|k| k as u8)),
             (&[7, 7], std::array::from_fn(|k| k as u8)),
             (&[5, 5, 0xff04, 0, 3, -1, 2, -3, 4, 5, -6, 7, -8], name),
+            (&[8, 8, 0xff04, 3], names),
         ];
         rows.map(|(row, bytes)| {
             let mut numbers = [0; 20];
@@ -370,15 +445,16 @@ mod tests {
         // Each place that is no field of 32 bits, with the least number that is too large for its rule.
         for (numbers, bytes) in records() {
             let rules: &[(usize, u64, i32)] = match numbers[1] {
-                4 => &[(0, 3, MOST), (1, 3, 8), (2, 6, MOST), (3, 4, 256)],
+                4 => &[(0, 3, MOST), (1, 3, 9), (2, 6, MOST), (3, 4, 256)],
+                8 => &[(0, 3, MOST), (1, 3, 9), (2, 6, MOST), (3, 3, 9)],
                 5 => &[
                     (0, 3, MOST),
-                    (1, 3, 8),
+                    (1, 3, 9),
                     (2, 6, MOST),
                     (3, 5, 5),
                     (4, 3, 128),
                 ],
-                _ => &[(0, 3, MOST), (1, 3, 8)],
+                _ => &[(0, 3, MOST), (1, 3, 9)],
             };
             for (place, number, limit) in rules {
                 for v in [*limit, 65536, 65536 + limit, -1, i32::MIN, i32::MAX] {
@@ -391,9 +467,78 @@ mod tests {
     }
 
     #[test]
+    fn names_are_looked_at_on_writing() {
+        let of = |packed: &[u8], count: u8| {
+            let bytes = std::array::from_fn(|k| packed.get(k).copied().unwrap_or(0));
+            let (number, alternate) = (0, 0xff01);
+            let body = Body::DeviceN { alternate, count };
+            write_block(&Record {
+                number,
+                body,
+                bytes,
+            })
+            .map_or_else(|refusal| refusal.number, |_| 0)
+        };
+        assert_eq!(of(b"\x04Blue\x04Buff", 2), 0);
+        assert_eq!(of(b"\x04None\x04None", 2), 0);
+        assert_eq!(of(b"\x04none\x04None\x04All ", 3), 0);
+        assert_eq!(of(b"\x04Blue\x04Blue", 2), 4);
+        assert_eq!(of(b"\x04Blue\x03All", 2), 4);
+        assert_eq!(of(b"\x04Blue\x04Buff", 1), 3);
+        assert_eq!(of(b"\x04Blue\x04Buff", 3), 3);
+        assert_eq!(of(b"\x04Blue\x04Bu\0f", 2), 3);
+        assert_eq!(of(b"\0", 1), 3);
+        let long = |length: u8| [&[length], &vec![b'a'; usize::from(length)][..]].concat();
+        assert_eq!((of(&long(48), 1), of(&long(49), 1)), (0, 3));
+        let eight: Vec<u8> = (1..=8).flat_map(|byte| [1, byte]).collect();
+        assert_eq!((of(&eight, 8), of(&eight, 9), of(&eight, 0)), (0, 3, 3));
+    }
+
+    #[test]
+    fn any_record_has_names() {
+        let bytes = [255; 504];
+        for count in [0, 1, 2, 8, 255] {
+            let body = Body::DeviceN {
+                alternate: 0,
+                count,
+            };
+            let names = Record {
+                number: 0,
+                body,
+                bytes,
+            };
+            assert_eq!(names.names().len(), usize::from(count.min(1)));
+            let none = Record {
+                bytes: [0; 504],
+                ..names
+            };
+            assert_eq!(none.names(), vec![b""; usize::from(count)]);
+        }
+        for (_, bytes) in records() {
+            for name_length in [0, 3, 127, 255] {
+                let (alternate, exponent, c0, c1) = (0, 1, [0; 4], [0; 4]);
+                let body = Body::Separation {
+                    alternate,
+                    exponent,
+                    name_length,
+                    c0,
+                    c1,
+                };
+                let number = 0;
+                let ink = Record {
+                    number,
+                    body,
+                    bytes,
+                };
+                assert_eq!(ink.names(), [&bytes[..usize::from(name_length)]]);
+            }
+        }
+    }
+
+    #[test]
     fn a_number_that_the_kind_does_not_name_is_zero() {
         for (numbers, bytes) in records() {
-            let named = [2, 9, 20, 12, 4, 13, 2, 2][numbers[1] as usize];
+            let named = [2, 9, 20, 12, 4, 13, 2, 2, 4][numbers[1] as usize];
             for place in named..20 {
                 for v in [1, -1, 65536, i32::MIN] {
                     let mut other = numbers;

@@ -21,12 +21,12 @@ use reference::block::Body;
 use reference::cie::Answer;
 use reference::colour::{answer, Colour, Reply};
 use reference::gamma::tenths;
-use reference::numbers::{limit, ONE};
+use reference::numbers::{limit, ONE, VALUES};
 use reference::page::{block_at, components};
 
-/// The four values that a colour starts with.
-fn values_of(colour: &[i32]) -> [i32; 4] {
-    let mut values = [0; 4];
+/// The values that a colour starts with.
+fn values_of(colour: &[i32]) -> [i32; VALUES] {
+    let mut values = [0; VALUES];
     for (value, component) in values.iter_mut().zip(colour) {
         *value = *component;
     }
@@ -44,10 +44,10 @@ pub fn evaluate(page: &[u8], number: u32, colour: &[i32]) -> Reply {
 }
 
 /// The answer on an accepted page that has the space.
-fn answered(page: &[u8], number: u32, values: [i32; 4]) -> Reply {
+fn answered(page: &[u8], number: u32, values: [i32; VALUES]) -> Reply {
     let p = |gamma| tenths(gamma).unwrap_or(10);
     let limited = values.map(|v| limit(v, 0, ONE));
-    let [a, b, c, _] = limited;
+    let [a, b, c, ..] = limited;
     let xyz = match block_at(page, number as usize).and_then(Body::of) {
         Some(Body::CalGray { white, gamma, .. }) => {
             decode::cal_gray(white[0], white[2], p(gamma), a)

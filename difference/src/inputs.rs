@@ -4,6 +4,9 @@ use crate::ours;
 use reference::block::{
     lay, seal, Body, Record, BLOCK, DEVICE_CMYK, DEVICE_GRAY, DEVICE_RGB, MOST_BLOCKS,
 };
+use reference::generate::device_n::{
+    damage_device_n, random_device_n_page, random_device_n_page_of,
+};
 use reference::generate::programs::{
     damage_program_page, damage_program_recipe, long_program_recipe, random_lone_program_record,
     random_program_page, random_program_page_of, random_program_recipe,
@@ -23,22 +26,45 @@ const MOST: u16 = MOST_BLOCKS as u16;
 
 /// A page: accepted, broken in one to three ways, or of random bytes.
 pub fn page(rng: &mut Rng) -> Vec<u8> {
-    match rng.below(10) {
+    match rng.below(12) {
         0 | 1 => accepted_page(rng),
         2..=5 => broken_page(rng),
         6 | 7 => broken_program_page(rng),
-        8 => random_bytes(rng),
+        8 | 9 => broken_device_n_page(rng),
+        10 => random_bytes(rng),
         _ => random_blocks(rng),
     }
 }
 
-/// An accepted page, some with spaces over programs.
+/// An accepted page, some with spaces over programs or with DeviceNs.
 fn accepted_page(rng: &mut Rng) -> Vec<u8> {
-    if rng.once_in(3) {
-        page_of_programs(rng)
-    } else {
-        random_page(rng)
+    match rng.below(6) {
+        0 => page_of_programs(rng),
+        1 => page_of_device_n(rng),
+        _ => random_page(rng),
     }
+}
+
+/// An accepted page with DeviceNs. Few are large.
+pub fn page_of_device_n(rng: &mut Rng) -> Vec<u8> {
+    if rng.once_in(64) {
+        return random_device_n_page(rng);
+    }
+    let blocks = 2 + rng.below(14);
+    random_device_n_page_of(rng, blocks)
+}
+
+/// A page with DeviceNs, broken in one or two ways that only such pages have, as any with programs, or in any way.
+pub fn broken_device_n_page(rng: &mut Rng) -> Vec<u8> {
+    let mut page = page_of_device_n(rng);
+    for _ in 0..1 + rng.below(2) {
+        match rng.below(6) {
+            0 => damage(rng, &mut page),
+            1 => damage_program_page(rng, &mut page),
+            _ => damage_device_n(rng, &mut page),
+        };
+    }
+    page
 }
 
 /// An accepted page with spaces over programs. Few are large, for judging many programs takes long.
@@ -104,7 +130,7 @@ fn random_blocks(rng: &mut Rng) -> Vec<u8> {
     let mut page = vec![0; count * BLOCK];
     for number in 0..count {
         let start = number * BLOCK;
-        page[start] = rng.below(9) as u8;
+        page[start] = rng.below(10) as u8;
         write_two(&mut page, start + 2, number as u16);
         for _ in 0..rng.below(40) {
             let reach = rng.pick(&[44, 168, 504], 504);
@@ -156,7 +182,7 @@ pub fn colour_of(rng: &mut Rng, count: usize) -> Vec<i32> {
 /// A colour of this many components, and once in a while of another count.
 pub fn colour(rng: &mut Rng, count: usize) -> Vec<i32> {
     let count = match rng.below(8) {
-        0 => rng.below(7),
+        0 => rng.below(11),
         1 if rng.once_in(16) => rng.below(300),
         _ => count,
     };
@@ -172,10 +198,10 @@ pub fn colour_at(rng: &mut Rng, page: &[u8], number: u32) -> Vec<i32> {
 /// A page's recipe, as it would be written.
 fn page_recipe(rng: &mut Rng) -> Vec<i32> {
     let blocks = 1 + rng.below(8);
-    let page = if rng.once_in(3) {
-        random_program_page_of(rng, blocks)
-    } else {
-        random_page_of(rng, blocks)
+    let page = match rng.below(6) {
+        0 | 1 => random_program_page_of(rng, blocks),
+        2 | 3 => random_device_n_page_of(rng, 2 * blocks),
+        _ => random_page_of(rng, blocks),
     };
     let number = number(rng, &page);
     recipe_of(&page, number).unwrap_or_default()
@@ -210,7 +236,7 @@ pub fn words(rng: &mut Rng) -> Vec<i32> {
     words
 }
 
-/// The lengths of long lists of words: about the most of a recipe, and about what was the most before programs.
+/// The lengths of long lists of words: about the most of a recipe, and about what was the most before DeviceN.
 const LENGTHS: [usize; 10] = [
     MOST_WORDS - 2,
     MOST_WORDS - 1,
@@ -220,19 +246,19 @@ const LENGTHS: [usize; 10] = [
     MOST_WORDS + 1,
     MOST_WORDS + 1,
     MOST_WORDS + 2,
-    1046,
-    2000,
+    1085,
+    3000,
 ];
 
 /// Random words, small ones above all.
 fn random_words(rng: &mut Rng) -> Vec<i32> {
     let length = match rng.below(4) {
-        0 => rng.below(2000),
+        0 => rng.below(4000),
         _ => rng.below(24),
     };
     let word = |rng: &mut Rng| match rng.below(3) {
         0 => rng.number(),
-        _ => rng.between(0, 13),
+        _ => rng.between(0, 14),
     };
     (0..length).map(|_| word(rng)).collect()
 }
@@ -315,6 +341,10 @@ fn alter_body(rng: &mut Rng, body: &mut Body) {
             k if k < 7 => moved(rng, &mut c0[k - 3]),
             k => moved(rng, &mut c1[k - 7]),
         },
+        Body::DeviceN { alternate, count } => match pick % 2 {
+            0 => moved_reference(rng, alternate),
+            _ => *count = rng.pick(&[0, 1, 2, 7, 8, 9, 255, count.wrapping_add(1)], 0),
+        },
     }
 }
 
@@ -341,8 +371,9 @@ pub fn record(rng: &mut Rng) -> Record {
                 record.number = rng.pick(&numbers, MOST);
             }
             1 => {
-                let reach = rng.pick(&[4, 128, 130, 504], 504);
-                record.bytes[rng.below(reach)] = rng.next() as u8;
+                let reach = rng.pick(&[4, 16, 128, 130, 400, 504], 504);
+                let byte = rng.next() as u8;
+                record.bytes[rng.below(reach)] = rng.pick(&[byte, 0, 1, 48, 49], byte);
             }
             _ => alter_body(rng, &mut record.body),
         }

@@ -4,6 +4,7 @@
 #![forbid(unsafe_code)]
 
 pub mod compare;
+pub mod device_n;
 pub mod fast;
 pub mod inks;
 pub mod inputs;
@@ -183,6 +184,7 @@ pub fn theirs(record: &Record) -> other::Record {
         },
         Body::Palette => other::Body::Palette,
         Body::Program => other::Body::Program,
+        Body::DeviceN { alternate, count } => other::Body::DeviceN { alternate, count },
     };
     other::Record {
         number: record.number,
@@ -240,6 +242,7 @@ pub fn ours(record: &other::Record) -> Record {
         },
         other::Body::Palette => Body::Palette,
         other::Body::Program => Body::Program,
+        other::Body::DeviceN { alternate, count } => Body::DeviceN { alternate, count },
     };
     Record {
         number: record.number,

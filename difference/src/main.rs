@@ -1,7 +1,7 @@
 //! `difference [SEED] [--pages N]`: compares the proved library with the second implementation on
 //! random input, and stops at the first difference. The seed is the clock's where none is given.
 
-use difference::{compare, inks, programs, Difference, PROVED};
+use difference::{compare, device_n, inks, programs, Difference, PROVED};
 use reference::generate::Rng;
 use std::process::ExitCode;
 use std::time::{Instant, SystemTime, UNIX_EPOCH};
@@ -28,8 +28,8 @@ fn asked(words: impl Iterator<Item = String>) -> Option<(u64, u64)> {
 }
 
 /// All the comparisons: for each page validated two colours, two runs of a written recipe, two lists,
-/// two inks, two records, two lists of any numbers as records, two blocks, a text, a program, a damaged one
-/// and a flat form.
+/// two inks, two records, two lists of any numbers as records, two blocks, a text, a program, a damaged one,
+/// a flat form, a page with DeviceNs or a damaged one, and a step 13.
 fn compare(seed: u64, pages: u64) -> Result<(), Difference> {
     let rng = &mut Rng::new(seed);
     let library = &PROVED;
@@ -61,6 +61,8 @@ fn compare(seed: u64, pages: u64) -> Result<(), Difference> {
     );
     println!("flat forms {}", programs::flat_forms(library, rng, pages)?);
     println!("operators {}", programs::operators(library)?);
+    println!("DeviceN {}", device_n::pages(library, rng, pages)?);
+    println!("step 13 {}", device_n::steps(library, rng, pages)?);
     Ok(())
 }
 

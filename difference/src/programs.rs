@@ -110,7 +110,7 @@ pub fn accepted(library: &Library, rng: &mut Rng, programs: u64) -> Result<Accep
     for _ in 0..programs {
         let mut branched = false;
         let (page, number) = page_over(rng, |rng, m| {
-            let text = random_program(rng, m);
+            let text = random_program(rng, 1, m);
             branched = has_branches(&text);
             text
         });
@@ -151,11 +151,11 @@ fn damaged_page(rng: &mut Rng, way: usize) -> (Vec<u8>, u32, &'static str) {
     let mut name = "a text damaged anywhere";
     let (mut page, number) = page_over(rng, |rng, m| {
         if way < PROGRAM_WAYS {
-            let (text, _, damage) = damaged_program_by(rng, m, way);
+            let (text, _, damage) = damaged_program_by(rng, 1, m, way);
             name = damage;
             return text;
         }
-        let mut text = random_program(rng, m);
+        let mut text = random_program(rng, 1, m);
         if way == PROGRAM_WAYS {
             for _ in 0..1 + rng.below(2) {
                 damage_program_text(rng, &mut text);
@@ -199,7 +199,7 @@ pub fn flat_forms(library: &Library, rng: &mut Rng, forms: u64) -> Result<Tally,
     let mut tally = Tally::default();
     for _ in 0..forms {
         let mut left = 1 + rng.below(4);
-        let mut flat = random_flat(rng, left);
+        let mut flat = random_flat(rng, 1, left);
         for _ in 0..rng.below(3) {
             damage_flat(rng, &mut flat);
         }

@@ -1,6 +1,6 @@
 //! The fast rival of the benchmark replies what the plain reference replies.
 
-use difference::{compare, fast, programs, FAST};
+use difference::{compare, device_n, fast, programs, FAST};
 use reference::block::{sums, BLOCK};
 use reference::gamma::greatest;
 use reference::generate::Rng;
@@ -80,4 +80,12 @@ fn programs_are_answered_alike() {
     let tally = programs::flat_forms(&FAST, &mut Rng::new(27), 4 * PAGES).unwrap();
     assert!(tally.accepted > PAGES && tally.refused[11] > PAGES);
     programs::operators(&FAST).unwrap();
+}
+
+#[test]
+fn device_n_is_answered_alike() {
+    let found = device_n::pages(&FAST, &mut Rng::new(28), 2 * PAGES).unwrap();
+    assert!(found.pages.accepted > PAGES);
+    let tally = device_n::steps(&FAST, &mut Rng::new(29), 8 * PAGES).unwrap();
+    assert!(tally.accepted > PAGES && tally.refused[11] > PAGES);
 }

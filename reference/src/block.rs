@@ -3,9 +3,11 @@
 //! "Byte 0 kind, byte 1 zero, bytes 2-3 the block's own number from 0, body 4-507, check 508-511."
 
 mod check;
+mod names;
 mod rules;
 
 pub use check::{check_holds, seal, sums};
+pub use names::{packed_names, MOST_NAMES, MOST_NAME_BYTES};
 pub use rules::form_holds;
 
 use crate::numbers::{read_four, read_two, write_four, write_two};
@@ -30,8 +32,10 @@ pub const DEVICE_CMYK: u16 = 0xff04;
 pub(crate) const BODY_AT: usize = 4;
 /// Where the check begins.
 const CHECK_AT: usize = 508;
-/// Where a Separation's name begins.
+/// Where a Separation's name begins, and the names of a DeviceN.
 pub(crate) const NAME_AT: usize = 8;
+/// The bytes in which the names of a DeviceN stand: those from byte 8 to the check.
+pub const NAMES: usize = CHECK_AT - NAME_AT;
 
 /// What a block records, by its kind.
 #[derive(Clone, Copy, Debug, PartialEq, Eq)]
@@ -91,17 +95,25 @@ pub enum Body {
     Palette,
     /// Document 02's kind 7: a part of a program's text, kept in the record's bytes.
     Program,
+    /// Document 02's kind 8: a DeviceN space; its names are kept in the record's bytes, packed from the first place on, and
+    /// its program lies in the blocks straight after it.
+    DeviceN {
+        /// The reference to the alternate space.
+        alternate: u16,
+        /// How many names there are.
+        count: u8,
+    },
 }
 
-/// One record: the block's own number, what it records, and the bytes of a name, of a palette or of a program's text.
+/// One record: the block's own number, what it records, and the bytes of names, of a palette or of a program's text.
 #[derive(Clone, Copy, Debug, PartialEq, Eq)]
 pub struct Record {
     /// The block's own number, below [`MOST_BLOCKS`] in an accepted record.
     pub number: u16,
     /// What the block records.
     pub body: Body,
-    /// A Separation's name in the first 128 places, a palette's or a program's bytes in all 504; every other place is
-    /// zero.
+    /// A Separation's name in the first 128 places, the packed names of a DeviceN in the first 500, a palette's or a
+    /// program's bytes in all 504; every other place is zero.
     pub bytes: [u8; BODY],
 }
 
@@ -118,7 +130,7 @@ fn write_row(block: &mut [u8; BLOCK], at: usize, row: &[i32]) {
 }
 
 impl Body {
-    /// The number of this body's kind, 0 to 7.
+    /// The number of this body's kind, 0 to 8.
     pub fn kind(&self) -> u8 {
         match self {
             Body::Free => 0,
@@ -129,6 +141,7 @@ impl Body {
             Body::Separation { .. } => 5,
             Body::Palette => 6,
             Body::Program => 7,
+            Body::DeviceN { .. } => 8,
         }
     }
 
@@ -165,16 +178,22 @@ impl Body {
             },
             6 => Body::Palette,
             7 => Body::Program,
+            8 => Body::DeviceN {
+                alternate: read_two(block, 4),
+                count: block[6],
+            },
             _ => return None,
         };
         Some(body)
     }
 
-    /// The reference to another space, in the two kinds that have one.
+    /// The reference to another space, in the three kinds that have one.
     pub fn reference(&self) -> Option<u16> {
         match self {
             Body::Indexed { base, .. } => Some(*base),
-            Body::Separation { alternate, .. } => Some(*alternate),
+            Body::Separation { alternate, .. } | Body::DeviceN { alternate, .. } => {
+                Some(*alternate)
+            }
             _ => None,
         }
     }
@@ -189,6 +208,7 @@ impl Record {
             Body::Separation { .. } => {
                 bytes[..NAME].copy_from_slice(&block[NAME_AT..NAME_AT + NAME]);
             }
+            Body::DeviceN { .. } => bytes[..NAMES].copy_from_slice(&block[NAME_AT..CHECK_AT]),
             Body::Palette | Body::Program => bytes.copy_from_slice(&block[BODY_AT..CHECK_AT]),
             _ => {}
         }
@@ -201,7 +221,7 @@ impl Record {
 }
 
 /// The block of a record by the same table, check and all, whether or not the record is one to be written.
-/// The record's bytes are laid where a name, a palette or a program's text lies, and nowhere else.
+/// The record's bytes are laid where a name, names, a palette or a program's text lies, and nowhere else.
 pub fn lay(record: &Record) -> [u8; BLOCK] {
     let mut block = [0; BLOCK];
     block[0] = record.body.kind();
@@ -257,6 +277,11 @@ pub fn lay(record: &Record) -> [u8; BLOCK] {
         }
         Body::Palette | Body::Program => {
             block[BODY_AT..CHECK_AT].copy_from_slice(&record.bytes);
+        }
+        Body::DeviceN { alternate, count } => {
+            write_two(&mut block, 4, *alternate);
+            block[6] = *count;
+            block[NAME_AT..CHECK_AT].copy_from_slice(&record.bytes[..NAMES]);
         }
     }
     seal(&mut block);

@@ -20,14 +20,16 @@
 //! digits each; after operations 31 and 33 then ` moved` where a limiting moved something. Or it is `refused N block B`.
 //!
 //! A record is its own number, its kind and the body's numbers in the paper's order (base hival; alternate
-//! exponent name-length C0 C1), then bytes: read, a Separation's 128 name places or a palette's or program's
-//! 504; to be written, the first of the record's 504 places, those missing being zero.
+//! exponent name-length C0 C1; alternate count-of-names), then bytes: read, a Separation's 128 name places, the 500 places
+//! of a DeviceN's packed names or a palette's or program's 504; to be written, the first of the record's 504 places, those
+//! missing being zero.
 //!
 //! How a case is written stands in `format`, what it must print in `interpreter`; `maker` gathers cases, and the
 //! other parts are the cases themselves.
 
 mod blocks;
 mod colours;
+mod devicen;
 mod flat;
 mod format;
 mod forms;
@@ -44,6 +46,7 @@ mod program_texts;
 mod programs;
 mod recipes;
 mod runs;
+mod taking;
 #[cfg(test)]
 mod tests;
 mod texts;
@@ -52,7 +55,7 @@ pub use format::{answer_text, dotted, float_text, hex_of, reply_text, Case};
 
 /// All the worked cases, in the order in which they are put to the program: the paper's own, numbers and steps,
 /// one block by itself, pages, colours with their recipes, the Separations None and All, colours that are pulled in, inks by
-/// name, designers' texts, and calculator programs: their texts, their blocks, and step 12 of a recipe.
+/// name, designers' texts, calculator programs (their texts, their blocks, and step 12 of a recipe), DeviceN, and step 13.
 pub fn all() -> Vec<Case> {
     let groups = [
         paper::cases,
@@ -71,6 +74,8 @@ pub fn all() -> Vec<Case> {
         programs::cases,
         program_pages::cases,
         flat::cases,
+        devicen::cases,
+        taking::cases,
     ];
     groups.iter().flat_map(|make| make()).collect()
 }

@@ -1,7 +1,8 @@
 //! Random input for the tests and the comparison: pages, records, colours and recipes, accepted ones and ones broken in
-//! one of many ways. What has document 02's programs in it is in [`programs`].
+//! one of many ways. What has document 02's programs in it is in [`programs`], what has its DeviceN in [`device_n`].
 
 mod damage;
+pub mod device_n;
 mod pages;
 pub mod programs;
 mod recipes;

@@ -5,6 +5,9 @@
 /// One, counted in millionths.
 pub const ONE: i32 = 1_000_000;
 
+/// How many values a colour has on its way: "Value places and input counts go to 8" (2026-08).
+pub const VALUES: usize = 8;
+
 /// "Numbers are big-endian": the two-byte number at this offset, 0 where the bytes do not reach that far.
 pub fn read_two(bytes: &[u8], at: usize) -> u16 {
     match bytes.get(at..).and_then(|rest| rest.first_chunk()) {

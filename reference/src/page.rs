@@ -5,12 +5,12 @@ mod programs;
 pub use programs::{judged_program, program_at, program_text, MOST_PROGRAM_BLOCKS};
 
 use crate::block::{
-    check_holds, form_holds, Body, BLOCK, BODY, BODY_AT, DEVICE_CMYK, DEVICE_GRAY, DEVICE_RGB,
-    MOST_BLOCKS, NAME_AT,
+    check_holds, form_holds, packed_names, Body, BLOCK, BODY, BODY_AT, DEVICE_CMYK, DEVICE_GRAY,
+    DEVICE_RGB, MOST_BLOCKS, NAMES, NAME_AT,
 };
-use crate::numbers::{read_two, ONE};
+use crate::numbers::{read_two, ONE, VALUES};
 
-/// "Carried: DeviceGray, DeviceRGB, DeviceCMYK, CalGray, CalRGB, Lab, Indexed, Separation."
+/// "Carried: DeviceGray, DeviceRGB, DeviceCMYK, CalGray, CalRGB, Lab, Indexed, Separation"; by document 02 DeviceN too.
 #[derive(Clone, Copy, Debug, PartialEq, Eq)]
 pub enum Family {
     /// The device code FF01.
@@ -29,15 +29,19 @@ pub enum Family {
     Indexed,
     /// A block of kind 5.
     Separation,
+    /// A block of kind 8, with its count of names.
+    DeviceN(u8),
 }
 
 impl Family {
-    /// "Component counts: Gray, CalGray, Indexed, Separation 1; RGB, CalRGB, Lab 3; CMYK 4."
+    /// "Component counts: Gray, CalGray, Indexed, Separation 1; RGB, CalRGB, Lab 3; CMYK 4." A DeviceN has a tint for each
+    /// of its names.
     pub fn components(self) -> usize {
         match self {
             Family::DeviceGray | Family::CalGray | Family::Indexed | Family::Separation => 1,
             Family::DeviceRgb | Family::CalRgb | Family::Lab => 3,
             Family::DeviceCmyk => 4,
+            Family::DeviceN(names) => usize::from(names),
         }
     }
 
@@ -52,17 +56,19 @@ impl Family {
             Family::Lab => "Lab",
             Family::Indexed => "Indexed",
             Family::Separation => "Separation",
+            Family::DeviceN(_) => "DeviceN",
         }
     }
 
-    /// The family of a block of this kind; none for free blocks, palettes, programs and unknown kinds.
-    pub fn of_kind(kind: u8) -> Option<Family> {
-        match kind {
+    /// The family of a block; none for free blocks, palettes, programs and unknown kinds.
+    pub fn of_block(block: &[u8; BLOCK]) -> Option<Family> {
+        match block[0] {
             1 => Some(Family::CalGray),
             2 => Some(Family::CalRgb),
             3 => Some(Family::Lab),
             4 => Some(Family::Indexed),
             5 => Some(Family::Separation),
+            8 => Some(Family::DeviceN(block[6])),
             _ => None,
         }
     }
@@ -84,7 +90,8 @@ pub(crate) fn body_at(page: &[u8], number: u32) -> Option<Body> {
 }
 
 /// "A reference is a block number, or FF01, FF03, FF04 (hexadecimal) for DeviceGray, RGB, CMYK": the family of the
-/// space that a number asks for. None where "the number asked for is neither a device code nor a block of kinds 1 to 5".
+/// space that a number asks for. None where "the number asked for is neither a device code nor a block of kinds 1 to 5";
+/// by document 02 that "now reads kinds 1 to 5 and 8".
 pub fn family(page: &[u8], number: u32) -> Option<Family> {
     if number == u32::from(DEVICE_GRAY) {
         Some(Family::DeviceGray)
@@ -93,7 +100,7 @@ pub fn family(page: &[u8], number: u32) -> Option<Family> {
     } else if number == u32::from(DEVICE_CMYK) {
         Some(Family::DeviceCmyk)
     } else {
-        Family::of_kind(block_at(page, number as usize)?[0])
+        Family::of_block(block_at(page, number as usize)?)
     }
 }
 
@@ -106,6 +113,20 @@ pub fn name_at(page: &[u8], number: u32) -> Option<&[u8]> {
     block[NAME_AT..].get(..usize::from(name_length))
 }
 
+/// Whether a space leaves no mark: a Separation "named exactly None", and a DeviceN "if all are None".
+pub fn leaves_no_mark(page: &[u8], number: u32) -> bool {
+    match body_at(page, number) {
+        Some(Body::Separation { .. }) => name_at(page, number) == Some(b"None"),
+        Some(Body::DeviceN { count, .. }) => {
+            let block = block_at(page, number as usize);
+            let bytes = block.map_or(&[][..], |block| &block[NAME_AT..NAME_AT + NAMES]);
+            let names = packed_names(bytes, count).unwrap_or_default();
+            !names.is_empty() && names.iter().all(|name| *name == b"None")
+        }
+        _ => false,
+    }
+}
+
 /// How many components a colour has in the space that a number asks for; none where there is no such space.
 pub fn components(page: &[u8], number: u32) -> Option<usize> {
     family(page, number).map(Family::components)
@@ -115,19 +136,18 @@ pub fn components(page: &[u8], number: u32) -> Option<usize> {
 pub fn spaces(page: &[u8]) -> impl Iterator<Item = (u32, Family)> + '_ {
     (0..)
         .zip(blocks(page))
-        .filter_map(|(number, block)| Some((number, Family::of_kind(block[0])?)))
+        .filter_map(|(number, block)| Some((number, Family::of_block(block)?)))
 }
 
 /// The ranges of a space's components in millionths, lowest and highest: "Lab L* 0..100, a* and b* by Range, ... all
 /// others 0..1".
-pub fn ranges(page: &[u8], number: u32) -> [(i32, i32); 4] {
-    match body_at(page, number) {
-        Some(Body::Lab {
-            range: [amin, amax, bmin, bmax],
-            ..
-        }) => [(0, 100 * ONE), (amin, amax), (bmin, bmax), (0, ONE)],
-        _ => [(0, ONE); 4],
+pub fn ranges(page: &[u8], number: u32) -> [(i32, i32); VALUES] {
+    let mut ranges = [(0, ONE); VALUES];
+    if let Some(Body::Lab { range, .. }) = body_at(page, number) {
+        let [amin, amax, bmin, bmax] = range;
+        ranges[..3].copy_from_slice(&[(0, 100 * ONE), (amin, amax), (bmin, bmax)]);
     }
+    ranges
 }
 
 /// The byte at this place of the palette "laid in the blocks straight after the Indexed block"; 0 past the page's end.
@@ -163,12 +183,13 @@ fn in_a_run(page: &[u8], number: usize) -> bool {
 }
 
 /// What refusal 6 looks at: "An Indexed base is any carried space but Indexed. A Separation's alternate is a device
-/// space, CalGray, CalRGB or Lab".
+/// space, CalGray, CalRGB or Lab"; a DeviceN has "a device or CIE-based alternate" too, and "an Indexed base may be
+/// DeviceN".
 fn reference_holds(page: &[u8], body: &Body) -> bool {
     let family = |reference: u16| family(page, u32::from(reference));
     match body {
         Body::Indexed { base, .. } => family(*base).is_some_and(|base| base != Family::Indexed),
-        Body::Separation { alternate, .. } => matches!(
+        Body::Separation { alternate, .. } | Body::DeviceN { alternate, .. } => matches!(
             family(*alternate),
             Some(
                 Family::DeviceGray
@@ -225,19 +246,14 @@ fn first_pass(number: usize, block: &[u8; BLOCK]) -> Result<(), u32> {
 /// before 7", and its run's 7 before them.
 fn second_pass(page: &[u8], number: usize, block: &[u8; BLOCK]) -> Result<(), u32> {
     let body = Body::of(block).ok_or(3u32)?;
-    if let Some(refusal) = body.number_refusal() {
+    if let Some(refusal) = body.number_refusal(&block[NAME_AT..NAME_AT + NAMES]) {
         return Err(refusal);
     }
     if !reference_holds(page, &body) {
         return Err(6);
     }
-    if let Body::Separation {
-        alternate,
-        exponent: 0,
-        ..
-    } = body
-    {
-        judged_program(page, number as u32, alternate)?;
+    if let Some((tints, alternate)) = programs::program_of(&body) {
+        judged_program(page, number as u32, tints, alternate)?;
     }
     if !run_or_entries_hold(page, number, &body) {
         return Err(7);

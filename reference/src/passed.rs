@@ -17,6 +17,7 @@ fn named(kind: i32) -> Option<usize> {
         3 => Some(2 + 3 + 3 + 4),
         4 => Some(2 + 2),
         5 => Some(2 + 3 + 4 + 4),
+        8 => Some(2 + 2),
         _ => None,
     }
 }
@@ -29,7 +30,7 @@ fn refers(reference: i32) -> bool {
 
 /// The first refusal of numbers that may be of any 32 bits, in the order 3, 4, 5, 6: an own number that
 /// no block has, an unknown kind, a number that the kind does not name and that is not 0, a name of no
-/// such length; hival; the exponent; the reference.
+/// such length, a count of names that is not 1 to 8; hival; the exponent; the reference.
 fn number_refusal(numbers: &[i32; NUMBERS]) -> Option<u32> {
     let [own, kind, first, second, third, ..] = *numbers;
     let Some(used) = named(kind) else {
@@ -39,9 +40,10 @@ fn number_refusal(numbers: &[i32; NUMBERS]) -> Option<u32> {
         (3, (0..MOST_BLOCKS as i32).contains(&own)),
         (3, numbers[used..].iter().all(|number| *number == 0)),
         (3, kind != 5 || (1..=127).contains(&third)),
+        (3, kind != 8 || (1..=8).contains(&second)),
         (4, kind != 4 || (0..=255).contains(&second)),
         (5, kind != 5 || (0..=4).contains(&second)),
-        (6, !(kind == 4 || kind == 5) || refers(first)),
+        (6, ![4, 5, 8].contains(&kind) || refers(first)),
     ];
     let broken = rules.iter().find(|(_, holds)| !holds);
     broken.map(|(number, _)| *number)
@@ -86,6 +88,10 @@ fn body(numbers: &[i32; NUMBERS]) -> Body {
         },
         6 => Body::Palette,
         7 => Body::Program,
+        8 => Body::DeviceN {
+            alternate: reference,
+            count: u8::try_from(numbers[3]).unwrap_or(1),
+        },
         _ => Body::Free,
     }
 }
@@ -131,6 +137,38 @@ mod tests {
         reply.err().unwrap_or(0)
     }
 
+    /// What writing these numbers, with zeros after them, and these packed names comes to.
+    fn with_names(row: &[i32], names: &[&[u8]]) -> u32 {
+        let mut numbers = [0; NUMBERS];
+        numbers[..row.len()].copy_from_slice(row);
+        let bytes = crate::records::device_n(0, 0, names).bytes;
+        let mut block = [0xaa; BLOCK];
+        let reply = write(&numbers, &bytes, &mut block);
+        assert!(reply.is_ok() || block == [0xaa; BLOCK]);
+        reply.err().unwrap_or(0)
+    }
+
+    #[test]
+    fn the_names_of_a_record_are_looked_at() {
+        let of = |names: &[&[u8]]| with_names(&[0, 8, 0xff04, names.len() as i32], names);
+        assert_eq!(of(&[b"Blue", b"Buff"]), 0);
+        assert_eq!(of(&[b"None", b"None"]), 0);
+        assert_eq!(of(&[b"Blue", b"Blue"]), 4);
+        assert_eq!(of(&[b"Blue", b"All"]), 4);
+        assert_eq!(of(&[b"Blue", b""]), 3);
+        assert_eq!(of(&[b"Bl\0e"]), 3);
+        assert_eq!(of(&[&[b'a'; 48]]), 0);
+        assert_eq!(of(&[&[b'a'; 49]]), 3);
+        assert_eq!(with_names(&[0, 8, 0xff04, 1], &[b"Blue", b"Buff"]), 3);
+        assert_eq!(with_names(&[0, 8, 0xff04, 3], &[b"Blue", b"Buff"]), 3);
+        for place in 4..NUMBERS {
+            let mut row = vec![0, 8, 0xff04, 1];
+            row.resize(place, 0);
+            row.push(7);
+            assert_eq!(with_names(&row, &[b"Ink"]), 3, "{row:?}");
+        }
+    }
+
     #[test]
     fn a_number_of_any_32_bits_has_its_refusal() {
         let any = [65536, 65537, -1, i32::MIN, i32::MAX];
@@ -139,6 +177,17 @@ mod tests {
             assert_eq!(refusal(&[v, 0], false), 3, "own number {v}");
             assert_eq!(refusal(&[0, 4, v, 3], false), 6, "base {v}");
             assert_eq!(refusal(&[0, 5, v, 1, 3], true), 6, "alternate {v}");
+        }
+        for v in any.into_iter().chain([0, 9, 256 + 1, 65536 + 2]) {
+            let row = [0, 8, 0xff01, v];
+            assert_eq!(with_names(&row, &[b"Ink"]), 3, "count of names {v}");
+        }
+        for v in any.into_iter().chain([most, most + 1, 0xff02]) {
+            let of = |names: &[&[u8]]| with_names(&[0, 8, v, names.len() as i32], names);
+            assert_eq!(of(&[b"Ink"]), 6, "alternate {v}");
+            assert_eq!(of(&[b"Ink", b"Ink"]), 4, "alternate {v} and equal names");
+            assert_eq!(of(&[b"All"]), 4, "alternate {v} and All");
+            assert_eq!(with_names(&[v, 8, 0, 1], &[b"All"]), 3, "own number {v}");
         }
         for v in any.into_iter().chain([256, 257]) {
             assert_eq!(refusal(&[0, v], false), 3, "kind {v}");

@@ -90,11 +90,11 @@ pub const OPERATORS: [(&[u8], Op); 19] = [
     (b"dup", Op::Dup),
 ];
 
-/// A text judged for an alternate of so many components: 16 of the whole text, then 17. "The program takes one limited
-/// tint and leaves the alternate's count of numbers."
-pub fn judge(text: &[u8], left: usize) -> Result<Program, u32> {
+/// A text judged for so many tints and an alternate of so many components: 16 of the whole text, then 17. "The program
+/// takes one limited tint and leaves the alternate's count of numbers"; a DeviceN's takes "all tints, the first deepest".
+pub fn judge(text: &[u8], taken: usize, left: usize) -> Result<Program, u32> {
     let program = parse(text).ok_or(16u32)?;
-    if !kinds::leaves(&program, left) {
+    if !kinds::leaves(&program, taken, left) {
         return Err(17);
     }
     Ok(program)

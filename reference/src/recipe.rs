@@ -3,12 +3,15 @@
 use crate::block::Body;
 use crate::numbers::palette_value;
 use crate::page::{
-    body_at, components, family, name_at, palette_byte, program_at, ranges, validate, Family,
+    body_at, components, family, leaves_no_mark, name_at, palette_byte, program_at, ranges,
+    validate, Family,
 };
 use crate::program::words_of;
 
-/// "A recipe longer than 1,045 words is ill-formed"; by document 02 "the limit of 1,045 words .. becomes 1,084".
-pub const MOST_WORDS: usize = 1084;
+/// "A recipe longer than 1,045 words is ill-formed"; by document 02 "the limit of 1,045 words .. becomes 1,084", and then
+/// "the limit of 1,084 words becomes 2,877": the count, a step 2 of 256 rows of eight, a step 13 of 796 words and CalRGB's
+/// own 25.
+pub const MOST_WORDS: usize = 1 + (3 + 8 * 256) + (4 + 796) + 25;
 
 /// The recipe of a space as its own run of words: "A recipe: judge, 8", and "its count, limits in component order, the
 /// closing step. Indexed puts step 2 and Separation step 3 in place of their limits, before those of the inner space."
@@ -35,11 +38,13 @@ pub fn write(page: &[u8], number: u32, words: &mut [i32]) -> Result<usize, (u32,
 
 /// A space's steps, closing step and all.
 fn steps(page: &[u8], number: u32) -> Vec<i32> {
-    // Document 02: "None is the words 1, 10; All is 1, the limit, 11."
-    match name_at(page, number) {
-        Some(b"None") => return vec![10],
-        Some(b"All") => return [limits(page, number), vec![11]].concat(),
-        _ => {}
+    // Document 02: "None is the words 1, 10; All is 1, the limit, 11"; of a DeviceN whose names are all None "the recipe
+    // its count and 10".
+    if leaves_no_mark(page, number) {
+        return vec![10];
+    }
+    if name_at(page, number) == Some(b"All") {
+        return [limits(page, number), vec![11]].concat();
     }
     match body_at(page, number) {
         Some(Body::Indexed { base, hival }) => {
@@ -51,9 +56,14 @@ fn steps(page: &[u8], number: u32) -> Vec<i32> {
             exponent: 0,
             ..
         }) => {
-            let alternate = u32::from(alternate);
-            let m = components(page, alternate).unwrap_or(0);
-            [program(page, number, m), steps(page, alternate)].concat()
+            // "That step is 12, the count of numbers left (1..4), the count of words that follow, then those."
+            let program = program(page, number, &[12], alternate);
+            [program, steps(page, u32::from(alternate))].concat()
+        }
+        Some(Body::DeviceN { alternate, count }) => {
+            // "A DeviceN's program is step 13, which is step 12 but says, next to its 13, how many values it takes".
+            let program = program(page, number, &[13, i32::from(count)], alternate);
+            [program, steps(page, u32::from(alternate))].concat()
         }
         Some(Body::Separation {
             alternate,
@@ -72,10 +82,11 @@ fn steps(page: &[u8], number: u32) -> Vec<i32> {
     }
 }
 
-/// "That step is 12, the count of numbers left (1..4), the count of words that follow, then those."
-fn program(page: &[u8], separation: u32, m: usize) -> Vec<i32> {
-    let words = program_at(page, separation).map_or(Vec::new(), |program| words_of(&program));
-    [vec![12, m as i32, words.len() as i32], words].concat()
+/// A program's step, which begins with these words.
+fn program(page: &[u8], record: u32, head: &[i32], alternate: u16) -> Vec<i32> {
+    let m = components(page, u32::from(alternate)).unwrap_or(0);
+    let words = program_at(page, record).map_or(Vec::new(), |program| words_of(&program));
+    [head, &[m as i32, words.len() as i32], &words].concat()
 }
 
 /// "2 m h and m(h + 1) entries": each palette byte's value in the base's range, row by row.
@@ -92,7 +103,7 @@ fn rows(page: &[u8], indexed: u32, base: u32, hival: u16) -> Vec<i32> {
     words
 }
 
-/// "1 k lo hi: value k (0..3) limited", for each component in order.
+/// "1 k lo hi: value k .. limited", for each component in order.
 fn limits(page: &[u8], number: u32) -> Vec<i32> {
     let count = components(page, number).unwrap_or(0);
     let ranges = (0..).zip(ranges(page, number)).take(count);

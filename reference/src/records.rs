@@ -142,6 +142,26 @@ pub fn program_run(number: u16, alternate: u16, text: &[u8]) -> Vec<Record> {
     run
 }
 
+/// A DeviceN of these names, packed one after the other as far as they fit.
+pub fn device_n(number: u16, alternate: u16, names: &[&[u8]]) -> Record {
+    let count = names.len() as u8;
+    let mut made = record(number, Body::DeviceN { alternate, count });
+    let packed = names
+        .iter()
+        .flat_map(|name| [&[name.len() as u8], *name].concat());
+    for (place, byte) in made.bytes.iter_mut().zip(packed) {
+        *place = byte;
+    }
+    made
+}
+
+/// A DeviceN of these names, and the blocks that hold its program's text.
+pub fn device_n_run(number: u16, alternate: u16, names: &[&[u8]], text: &[u8]) -> Vec<Record> {
+    let mut run = program_run(number, alternate, text);
+    run[0] = device_n(number, alternate, names);
+    run
+}
+
 /// The page of these records.
 pub fn page(records: &[Record]) -> Vec<u8> {
     records.iter().flat_map(lay).collect()

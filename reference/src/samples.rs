@@ -1,6 +1,9 @@
 //! Pages to try, and what is said of them.
 
+mod map;
 mod varnish;
+
+pub use map::{INKS as MAP_INKS, TWO_INKS};
 
 use crate::block::{Record, BLOCK, BODY, DEVICE_CMYK, DEVICE_GRAY, DEVICE_RGB, MOST_BLOCKS};
 use crate::cie::Answer;
@@ -50,7 +53,7 @@ fn palette_bytes(count: usize) -> Vec<u8> {
     (0..count).map(|place| (place * 73 % 256) as u8).collect()
 }
 
-/// A page of this many blocks with every family, and Indexed spaces over every kind of base.
+/// A page of this many blocks with every family but DeviceN, and Indexed spaces over every kind of base.
 pub fn full_page(blocks: usize) -> Vec<u8> {
     let mut records: Vec<Record> = Vec::new();
     let mut turn = 0;
@@ -141,8 +144,13 @@ pub fn all() -> Vec<Sample> {
             varnish::varnish_page(),
         ),
         sample(
+            "map",
+            "A deck plan's map in two inks: a DeviceN of Blue and Buff (block 0) over DeviceCMYK, whose program makes process colours of its two tints, and an Indexed space over it (block 2); three names, of which one is None, over DeviceRGB (block 4) and over a CalRGB space (block 7); and a DeviceN of None twice (block 9), which leaves no mark.",
+            map::map_page(),
+        ),
+        sample(
             "large",
-            "An Indexed space over DeviceCMYK with hival 255: 1,024 palette bytes in three blocks, and the longest recipe that a page has.",
+            "An Indexed space over DeviceCMYK with hival 255: 1,024 palette bytes in three blocks.",
             page(&indexed_run(0, DEVICE_CMYK, 255, &palette_bytes(1024))),
         ),
         sample(
@@ -152,7 +160,7 @@ pub fn all() -> Vec<Sample> {
         ),
         sample(
             "full",
-            "As many blocks as a page has, with every family.",
+            "As many blocks as a page has, with every family but DeviceN.",
             full_page(MOST_BLOCKS),
         ),
         sample(
@@ -213,6 +221,14 @@ const COLOURS: &[(&str, u32, &[i32])] = &[
     ("varnish", 3, &[250_000]),
     ("varnish", 3, &[ONE]),
     ("varnish", 6, &[2_500_000]),
+    ("map", 0, &[ONE, 0]),
+    ("map", 0, &[250_000, 500_000]),
+    ("map", 0, &[1_500_000, -ONE]),
+    ("map", 2, &[3 * ONE]),
+    ("map", 2, &[4_500_000]),
+    ("map", 4, &[300_000, 600_000, 900_000]),
+    ("map", 7, &[300_000, 600_000, 900_000]),
+    ("map", 9, &[500_000, 2 * ONE]),
     ("large", 0, &[181 * ONE]),
     ("nested", 0, &[2_500_000]),
     ("nested", 2, &[ONE]),

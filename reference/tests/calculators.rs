@@ -11,13 +11,17 @@ use reference::runner;
 
 /// What a text leaves of a tint, or its refusal; and that its flat form leaves the same.
 fn left(text: &str, count: usize, tint: i32) -> Result<Vec<i32>, u32> {
-    let program = judge(text.as_bytes(), count)?;
+    let program = judge(text.as_bytes(), 1, count)?;
     let words = words_of(&program);
-    assert!(runner::flat::holds(&words, count), "{text}");
-    assert!(flat::holds(&words, count), "{text}");
-    let results = results(&program, tint).expect(text);
-    assert_eq!(runner::flat::run(&words, tint), results, "{text}");
-    assert_eq!(flat::run(&words, tint).as_ref(), Some(&results), "{text}");
+    assert!(runner::flat::holds(&words, 1, count), "{text}");
+    assert!(flat::holds(&words, 1, count), "{text}");
+    let results = results(&program, &[tint]).expect(text);
+    assert_eq!(runner::flat::run(&words, &[tint]), results, "{text}");
+    assert_eq!(
+        flat::run(&words, &[tint]).as_ref(),
+        Some(&results),
+        "{text}"
+    );
     Ok(results)
 }
 
@@ -174,7 +178,7 @@ fn refusals_by_hand() {
     }
     for byte in (1..=255).filter(|b| !b"\t\n\x0c\r {}%".contains(b) && !b.is_ascii_digit()) {
         let text = [b"{ ", &[byte][..], b" }"].concat();
-        assert_eq!(judge(&text, 1), Err(16), "byte {byte}");
+        assert_eq!(judge(&text, 1, 1), Err(16), "byte {byte}");
     }
 }
 
@@ -279,8 +283,8 @@ fn flat_forms_by_hand() {
         (&[21, 22, 5, 3, 5, 2, 18, 21, 23], 1, false),
         (&[21, 5, 4, 22, 5, 1, 18, 19, 19], 1, true),
     ] {
-        assert_eq!(runner::flat::holds(words, count), holds, "{words:?}");
-        assert_eq!(flat::holds(words, count), holds, "{words:?}");
+        assert_eq!(runner::flat::holds(words, 1, count), holds, "{words:?}");
+        assert_eq!(flat::holds(words, 1, count), holds, "{words:?}");
     }
     // Step 12 replaces the first values and leaves the others; its tint is limited, and says so.
     let step = [3, 12, 2, 1, 25, 5];

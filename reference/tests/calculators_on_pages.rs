@@ -283,7 +283,7 @@ fn a_recipe_run_equals_the_colour_on_the_page() {
                     }
                     _ => {
                         let program = program_at(&page, number).unwrap();
-                        let left = results(&program, limit(v, 0, ONE)).unwrap();
+                        let left = results(&program, &[limit(v, 0, ONE)]).unwrap();
                         let alternate = u32::from(alternate);
                         assert_eq!(components(&page, alternate), Some(left.len()));
                         let inner = evaluate(&page, alternate, &left).unwrap();

@@ -23,6 +23,17 @@ fn tint(rng: &mut Rng) -> i32 {
     rng.pick(&[0, ONE, ONE / 2, 1, ONE - 1, any, any, any], any)
 }
 
+/// So many tints.
+fn tints(rng: &mut Rng, count: usize) -> Vec<i32> {
+    (0..count).map(|_| tint(rng)).collect()
+}
+
+/// How many values a program takes: one, as a Separation's, or as many as a DeviceN's.
+fn taken(rng: &mut Rng) -> usize {
+    let any = 1 + rng.below(8);
+    rng.pick(&[1, any], 1)
+}
+
 /// How many branches a program has, and how far they nest, the outer pair counted.
 fn branches(program: &Program) -> (usize, usize) {
     let mut found = (0, 1);
@@ -48,30 +59,33 @@ fn the_tree_equals_the_flat_form() {
     let (mut branched, mut nested, mut full, mut long) = (0, 0, 0, 0);
     let mut codes = [0; 26];
     for round in 0..PROGRAMS {
-        let count = 1 + rng.below(4);
+        let (taken, count) = (taken(&mut rng), 1 + rng.below(4));
         let about = rng.below(30);
         let text = match round % 5 {
-            0 => random_program(&mut rng, count),
-            _ => random_program_of(&mut rng, count, Shape::About(about)),
+            0 => random_program(&mut rng, taken, count),
+            _ => random_program_of(&mut rng, taken, count, Shape::About(about)),
         };
-        let program = judge(&text, count).unwrap_or_else(|refusal| {
+        let program = judge(&text, taken, count).unwrap_or_else(|refusal| {
             panic!("refusal {refusal} of {}", String::from_utf8_lossy(&text))
         });
         let words = words_of(&program);
         assert!(words.len() <= 796);
-        assert!(runner::flat::holds(&words, count), "{words:?}");
+        assert!(runner::flat::holds(&words, taken, count), "{words:?}");
         for _ in 0..3 {
-            let tint = tint(&mut rng);
-            let expected = results(&program, tint).unwrap();
+            let tints = tints(&mut rng, taken);
+            let expected = results(&program, &tints).unwrap();
             assert_eq!(expected.len(), count);
-            assert_eq!(runner::flat::run(&words, tint), expected, "{words:?}");
+            assert_eq!(runner::flat::run(&words, &tints), expected, "{words:?}");
             if round % 20 == 0 {
-                assert_eq!(flat::run(&words, tint), Some(expected));
+                assert_eq!(flat::run(&words, &tints), Some(expected));
             }
         }
         if round % 20 == 0 {
-            assert!(flat::holds(&words, count), "{words:?}");
-            assert!(!runner::flat::holds(&words, count % 4 + 1), "{words:?}");
+            assert!(flat::holds(&words, taken, count), "{words:?}");
+            let other = count % 4 + 1;
+            assert!(!runner::flat::holds(&words, taken, other), "{words:?}");
+            let other = taken % 8 + 1;
+            assert!(!runner::flat::holds(&words, other, count), "{words:?}");
             for word in words.iter().filter(|word| (1..=25).contains(*word)) {
                 codes[*word as usize] += 1;
             }
@@ -104,19 +118,19 @@ fn the_tree_is_judged_as_the_flat_form() {
     let mut rng = Rng::new(62);
     let mut met = BTreeMap::new();
     for _ in 0..PROGRAMS {
-        let count = 1 + rng.below(4);
+        let (taken, count) = (taken(&mut rng), 1 + rng.below(4));
         let about = rng.below(30);
-        let mut text = random_program_of(&mut rng, count, Shape::About(about));
+        let mut text = random_program_of(&mut rng, taken, count, Shape::About(about));
         for _ in 0..1 + rng.below(2) {
             damage_program_text(&mut rng, &mut text);
         }
-        let reply = judge(&text, count).map(|_| ());
+        let reply = judge(&text, taken, count).map(|_| ());
         *met.entry(reply).or_insert(0) += 1;
         let Some(program) = parse(&text) else {
             assert_eq!(reply, Err(16));
             continue;
         };
-        let holds = runner::flat::holds(&words_of(&program), count);
+        let holds = runner::flat::holds(&words_of(&program), taken, count);
         let expected = holds && counts_are_whole(&program);
         assert_eq!(
             reply.is_ok(),
@@ -135,9 +149,9 @@ fn every_way_of_damage_leads_to_its_refusal() {
     let mut rng = Rng::new(63);
     for way in 0..PROGRAM_WAYS {
         for _ in 0..300 {
-            let count = 1 + rng.below(4);
-            let (text, refusal, name) = damaged_program_by(&mut rng, count, way);
-            let reply = judge(&text, count).err();
+            let (taken, count) = (taken(&mut rng), 1 + rng.below(4));
+            let (text, refusal, name) = damaged_program_by(&mut rng, taken, count, way);
+            let reply = judge(&text, taken, count).err();
             assert_eq!(
                 reply,
                 Some(refusal),
@@ -154,14 +168,15 @@ fn random_flat_forms_are_judged_and_run_alike() {
     let mut rng = Rng::new(64);
     let (mut right, mut still, mut ill) = (0, 0, 0);
     for round in 0..PROGRAMS / 4 {
-        let count = 1 + rng.below(4);
-        let mut words = random_flat(&mut rng, count);
+        let (taken, count) = (taken(&mut rng), 1 + rng.below(4));
+        let mut words = random_flat(&mut rng, taken, count);
         let damaged = round % 3 != 0;
         for _ in 0..usize::from(damaged) * (1 + rng.below(2)) {
             damage_flat(&mut rng, &mut words);
         }
-        let holds = flat::holds(&words, count);
-        assert_eq!(runner::flat::holds(&words, count), holds, "{words:?}");
+        let holds = flat::holds(&words, taken, count);
+        let ours = runner::flat::holds(&words, taken, count);
+        assert_eq!(ours, holds, "{words:?}");
         assert!(damaged || holds, "{words:?}");
         match (holds, damaged) {
             (true, false) => right += 1,
@@ -169,9 +184,9 @@ fn random_flat_forms_are_judged_and_run_alike() {
             _ => ill += 1,
         }
         if holds {
-            let tint = tint(&mut rng);
-            let expected = flat::run(&words, tint);
-            assert_eq!(Some(runner::flat::run(&words, tint)), expected, "{words:?}");
+            let tints = tints(&mut rng, taken);
+            let (ours, expected) = (runner::flat::run(&words, &tints), flat::run(&words, &tints));
+            assert_eq!(Some(ours), expected, "{words:?}");
         }
     }
     assert!(right > PROGRAMS / 20 && still > PROGRAMS / 200 && ill > PROGRAMS / 20);

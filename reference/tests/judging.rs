@@ -5,6 +5,7 @@ mod common;
 use common::*;
 use reference::block::{Body, BLOCK, DEVICE_CMYK, DEVICE_GRAY, DEVICE_RGB, MOST_BLOCKS};
 use reference::colour::evaluate;
+use reference::generate::device_n::{damage_device_n, random_device_n_page_of};
 use reference::generate::programs::{damage_program_page, random_program_page_of};
 use reference::generate::{damage, random_page, Rng};
 use reference::numbers::ONE;
@@ -41,6 +42,7 @@ fn faults(page: &[u8]) -> Vec<(u32, u32, u32)> {
         _ if reference < count as i128 => match byte(reference as usize, 0) {
             kind @ (1 | 4 | 5) => Some((1, kind)),
             kind @ (2 | 3) => Some((3, kind)),
+            8 => Some((byte(reference as usize, 6), 8)),
             _ => None,
         },
         _ => None,
@@ -62,10 +64,11 @@ fn faults(page: &[u8]) -> Vec<(u32, u32, u32)> {
             4 => &[4..6, 6..8],
             5 => &[4..6, 6..7, 7..8, 8..136, 136..152, 152..168],
             6 | 7 => &[4..100, 100..508],
+            8 => &[4..6, 6..7, 8..508],
             _ => &[],
         };
         let unnamed = (4..508).any(|i| byte(n, i) != 0 && !named.iter().any(|r| r.contains(&i)));
-        if kind > 7 || byte(n, 1) != 0 || two(n, 2) != n as i128 || unnamed {
+        if kind > 8 || byte(n, 1) != 0 || two(n, 2) != n as i128 || unnamed {
             fault(1, 3);
         }
         if kind == 5 {
@@ -73,6 +76,32 @@ fn faults(page: &[u8]) -> Vec<(u32, u32, u32)> {
             let bad = (0..128).any(|i| (byte(n, 8 + i) != 0) != (i < length));
             if !(1..=127).contains(&length) || bad {
                 fault(1, 3);
+            }
+        }
+        let mut names: Vec<Vec<i128>> = Vec::new();
+        if kind == 8 {
+            // Every name by its length, as far as the block goes; then zeros.
+            let mut at = 8;
+            let mut bad = !(1..=8).contains(&byte(n, 6));
+            for _ in 0..byte(n, 6) {
+                let length = if at < 508 { byte(n, at) as usize } else { 0 };
+                let name: Vec<i128> = (at + 1..at + 1 + length)
+                    .map(|i| if i < 508 { byte(n, i) } else { 0 })
+                    .collect();
+                bad |= name.is_empty() || name.len() > 48 || name.contains(&0);
+                at += 1 + length;
+                names.push(name);
+            }
+            if bad || (at..508).any(|i| byte(n, i) != 0) {
+                fault(1, 3);
+            }
+            let letters = |word: &[u8]| -> Vec<i128> { word.iter().map(|b| (*b).into()).collect() };
+            let mut others: Vec<_> = names.iter().filter(|v| **v != letters(b"None")).collect();
+            let all = others.len();
+            others.sort();
+            others.dedup();
+            if others.len() < all || others.contains(&&letters(b"All")) {
+                fault(2, 4);
             }
         }
         if (1..=3).contains(&kind) {
@@ -123,13 +152,13 @@ fn faults(page: &[u8]) -> Vec<(u32, u32, u32)> {
                     }
                 }
             }
-            5 => {
-                if byte(n, 6) > 4 {
+            5 | 8 => {
+                if kind == 5 && byte(n, 6) > 4 {
                     fault(2, 5);
                 }
                 match space(two(n, 4)) {
-                    None | Some((_, 4 | 5)) => fault(2, 6),
-                    Some((m, _)) if byte(n, 6) == 0 => {
+                    None | Some((_, 4 | 5 | 8)) => fault(2, 6),
+                    Some((m, _)) if kind == 8 || byte(n, 6) == 0 => {
                         let mut text = Vec::new();
                         let mut ill = false;
                         for at in (n + 1..n + 5).take_while(|at| *at < count && byte(*at, 0) == 7) {
@@ -140,8 +169,9 @@ fn faults(page: &[u8]) -> Vec<(u32, u32, u32)> {
                         }
                         let end = text.iter().position(|b| *b == 0).unwrap_or(text.len());
                         ill |= text.is_empty() || text[end..].iter().any(|b| *b != 0);
-                        let numbers = (0..8).any(|k| four(n, 136 + 4 * k) != 0);
-                        match reference::program::judge(&text[..end], m as usize) {
+                        let taken = if kind == 8 { names.len() } else { 1 };
+                        let numbers = kind == 5 && (0..8).any(|k| four(n, 136 + 4 * k) != 0);
+                        match reference::program::judge(&text[..end], taken, m as usize) {
                             _ if ill => fault(2, 7),
                             Err(number) => fault(2, number),
                             Ok(_) if numbers => fault(2, 7),
@@ -269,6 +299,36 @@ fn damaged_pages_with_programs_are_judged_alike() {
         reached[number as usize] += 1;
     }
     for number in [0, 2, 3, 5, 6, 7, 16, 17] {
+        let count = reached[number];
+        assert!(count > 5, "refusal {number} was met {count} times");
+    }
+}
+
+#[test]
+fn damaged_pages_with_device_n_are_judged_alike() {
+    let mut rng = Rng::new(18);
+    let mut reached = [0; 18];
+    for _ in 0..ROUNDS / 10 {
+        let blocks = 2 + rng.below(16);
+        let mut page = random_device_n_page_of(&mut rng, blocks);
+        assert_eq!(validate(&page), Ok(blocks));
+        assert_eq!(slow(&page), Ok(blocks));
+        let mut ways = Vec::new();
+        for _ in 0..rng.below(3) {
+            ways.push(damage_device_n(&mut rng, &mut page));
+        }
+        if rng.once_in(3) {
+            ways.push(damage_program_page(&mut rng, &mut page));
+        }
+        if rng.once_in(4) {
+            ways.push(damage(&mut rng, &mut page));
+        }
+        let expected = slow(&page);
+        assert_eq!(validate(&page), expected, "{ways:?}");
+        let number = expected.err().map_or(0, |(number, _)| number);
+        reached[number as usize] += 1;
+    }
+    for number in [0, 2, 3, 4, 6, 7, 16, 17] {
         let count = reached[number];
         assert!(count > 5, "refusal {number} was met {count} times");
     }
@@ -423,9 +483,23 @@ fn families_and_counts() {
     assert_eq!(components(&[], 0xff04), Some(4));
     assert_eq!(components(&[], 0xff02), None);
     assert_eq!(components(&[], u32::MAX), None);
-    let names: Vec<_> = (0..=255)
-        .filter_map(Family::of_kind)
-        .map(Family::name)
-        .collect();
-    assert_eq!(names, ["CalGray", "CalRGB", "Lab", "Indexed", "Separation"]);
+    let of_kind = |kind| {
+        let mut block = [0; BLOCK];
+        (block[0], block[6]) = (kind, 5);
+        Family::of_block(&block)
+    };
+    let families: Vec<_> = (0..=255).filter_map(of_kind).collect();
+    let names: Vec<_> = families.iter().map(|family| family.name()).collect();
+    assert_eq!(
+        names,
+        [
+            "CalGray",
+            "CalRGB",
+            "Lab",
+            "Indexed",
+            "Separation",
+            "DeviceN"
+        ]
+    );
+    assert_eq!(families[5].components(), 5);
 }

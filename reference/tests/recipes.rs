@@ -47,6 +47,7 @@ fn length(page: &[u8], number: u32) -> usize {
         Family::CalGray => 9,
         Family::CalRgb => 26,
         Family::Lab => 16,
+        Family::DeviceN(_) => unreachable!("no page made here has one"),
         Family::Indexed | Family::Separation => {
             match block_at(page, number as usize).and_then(Body::of) {
                 Some(Body::Indexed { base, hival }) => {

@@ -54,8 +54,8 @@ fn the_least_recipes() {
         moved(Answer::Gray(float_of(5)))
     );
     // 10 and 11 may end any recipe; 11 reads value 0 as it stands.
-    for count in 1..=4 {
-        let colour = &[-7 * ONE, 1, 2, 3][..count];
+    for count in 1..=8 {
+        let colour = &[-7 * ONE, 1, 2, 3, 4, 5, 6, 7][..count];
         let input = count as i32;
         assert_eq!(run(&[input, 10], colour), kept(Answer::NoMark));
         assert_eq!(run(&[input, 11], colour), kept(Answer::EveryInk(-7.0)));
@@ -84,16 +84,18 @@ fn ill_formed_recipes_are_11() {
     let ill: Vec<Vec<i32>> = vec![
         vec![],
         vec![0, 4],
-        vec![5, 4],
+        vec![9, 4],
         vec![-1, 4],
         vec![i32::MIN, 4],
         vec![1],
         vec![1, 0],
         vec![1, 12],
+        vec![1, 13],
+        vec![1, 14],
         vec![1, 10, 0],
         vec![1, 11, 0],
         vec![1, 10, 11],
-        vec![5, 10],
+        vec![9, 10],
         vec![11],
         vec![1, -4],
         vec![1, 4, 4],
@@ -101,10 +103,10 @@ fn ill_formed_recipes_are_11() {
         vec![1, 1, 0, 0, 1],
         vec![1, 1, 0, 0],
         vec![1, 1, -1, 0, 1, 4],
-        vec![1, 1, 4, 0, 1, 4],
+        vec![1, 1, 8, 0, 1, 4],
         vec![1, 1, 0, 1, 0, 4],
         vec![1, 2, 0, 0, 4],
-        vec![1, 2, 5, 0, 1, 2, 3, 4, 5, 4],
+        vec![1, 2, 9, 0, 1, 2, 3, 4, 5, 6, 7, 8, 9, 4],
         vec![1, 2, 1, -1, 4],
         vec![1, 2, 1, 0],
         vec![1, 2, 1, 0, 4],
@@ -146,7 +148,13 @@ fn ill_formed_recipes_are_11() {
         vec![4, 6],
         vec![1, 10],
         vec![4, 11],
+        vec![5, 4],
+        vec![8, 6],
         vec![2, 1, 3, 5, 5, 10],
+        vec![1, 1, 7, 5, 5, 10],
+        vec![1, 2, 5, 0, 1, 2, 3, 4, 5, 4],
+        vec![1, 2, 8, 0, 1, 2, 3, 4, 5, 6, 7, 8, 4],
+        vec![1, 13, 8, 1, 7, 23, 23, 23, 23, 23, 23, 23, 4],
         vec![1, 7, 0, 0, 4 * ONE],
         vec![1, 7, 0, 0, 100_000],
         vec![1, 7, 0, 0, 1_800_000],
@@ -157,12 +165,13 @@ fn ill_formed_recipes_are_11() {
         [vec![1, 2, 1, 255], vec![0; 256], vec![4]].concat(),
     ] {
         assert_eq!(run(&words, &[]), NINE, "{words:?}");
-        assert!(run(&words, &[0; 4][..words[0] as usize]).is_ok());
+        assert!(run(&words, &[0; 8][..words[0] as usize]).is_ok());
     }
 }
 
 #[test]
-fn a_recipe_of_more_than_1084_words_is_11() {
+fn a_recipe_of_more_than_2877_words_is_11() {
+    assert_eq!(MOST_WORDS, 2877);
     let limits = |count: usize| {
         let mut words = vec![1];
         for _ in 0..count {
@@ -170,31 +179,31 @@ fn a_recipe_of_more_than_1084_words_is_11() {
         }
         words
     };
-    let mut words = limits(268);
-    words.extend([2, 1, 5, 1, 1, 1, 1, 1, 1, 4]);
-    assert_eq!(words.len(), 1083);
-    assert_eq!(run(&words, &[0]), kept(Answer::Gray(float_of(1))));
-    let mut words = limits(268);
+    let mut words = limits(716);
     words.extend([2, 1, 6, 1, 1, 1, 1, 1, 1, 1, 4]);
-    assert_eq!(words.len(), 1084);
+    assert_eq!(words.len(), 2876);
     assert_eq!(run(&words, &[0]), kept(Answer::Gray(float_of(1))));
-    let mut words = limits(268);
+    let mut words = limits(716);
     words.extend([2, 1, 7, 1, 1, 1, 1, 1, 1, 1, 1, 4]);
-    assert_eq!(words.len(), 1085);
+    assert_eq!(words.len(), 2877);
+    assert_eq!(run(&words, &[0]), kept(Answer::Gray(float_of(1))));
+    let mut words = limits(716);
+    words.extend([2, 1, 8, 1, 1, 1, 1, 1, 1, 1, 1, 1, 4]);
+    assert_eq!(words.len(), 2878);
     assert_eq!(run(&words, &[0]), ELEVEN);
     assert_eq!(run(&vec![4; 100_000], &[0]), ELEVEN);
 }
 
 /// A slow second runner: words taken one at a time, exact fractions in i128. None is 11.
 fn slow(words: &[i32], colour: &[i32]) -> Option<Reply> {
-    if words.len() > 1084 {
+    if words.len() > 2877 {
         return None;
     }
     let mut queue = words.iter().map(|word| i128::from(*word));
     let floor_half = |top: i128, below: i128| (2 * top + below).div_euclid(2 * below);
-    let count = queue.next().filter(|count| (1..5).contains(count))?;
+    let count = queue.next().filter(|count| (1..9).contains(count))?;
     let mut values: Vec<i128> = colour.iter().map(|v| i128::from(*v)).collect();
-    values.resize(4, 0);
+    values.resize(8, 0);
     let float = |v: i128| v as f64 / 1_000_000.0;
     // What was limited, each with the range that it was limited to.
     let mut limited: Vec<(i128, i128, i128)> = Vec::new();
@@ -203,7 +212,7 @@ fn slow(words: &[i32], colour: &[i32]) -> Option<Reply> {
         match code {
             1 => {
                 let (k, lo, hi) = (queue.next()?, queue.next()?, queue.next()?);
-                if !(0..4).contains(&k) || lo > hi {
+                if !(0..8).contains(&k) || lo > hi {
                     return None;
                 }
                 limited.push((values[k as usize], lo, hi));
@@ -211,7 +220,7 @@ fn slow(words: &[i32], colour: &[i32]) -> Option<Reply> {
             }
             2 => {
                 let (m, h) = (queue.next()?, queue.next()?);
-                if !(1..5).contains(&m) || !(0..256).contains(&h) {
+                if !(1..9).contains(&m) || !(0..256).contains(&h) {
                     return None;
                 }
                 limited.push((floor_half(values[0], 1_000_000), 0, h));
@@ -308,20 +317,24 @@ fn slow(words: &[i32], colour: &[i32]) -> Option<Reply> {
                 );
                 break Answer::Xyz([float(xw) * first, second, float(zw) * third]);
             }
-            12 => {
+            12 | 13 => {
+                let taken = if code == 12 { 1 } else { queue.next()? };
                 let (m, n) = (queue.next()?, queue.next()?);
-                if !(1..5).contains(&m) || n < 0 {
+                if !(1..9).contains(&taken) || !(1..5).contains(&m) || n < 0 {
                     return None;
                 }
+                let taken = taken as usize;
                 let program: Vec<i32> = (0..n)
                     .map_while(|_| queue.next())
                     .map(|word| word as i32)
                     .collect();
-                if program.len() as i128 != n || !flat::holds(&program, m as usize) {
+                if program.len() as i128 != n || !flat::holds(&program, taken, m as usize) {
                     return None;
                 }
-                limited.push((values[0], 0, 1_000_000));
-                let left = flat::run(&program, values[0].clamp(0, 1_000_000) as i32)?;
+                limited.extend(values[..taken].iter().map(|v| (*v, 0, 1_000_000)));
+                let tint = |v: &i128| (*v).clamp(0, 1_000_000) as i32;
+                let tints: Vec<i32> = values[..taken].iter().map(tint).collect();
+                let left = flat::run(&program, &tints)?;
                 for (value, left) in values.iter_mut().zip(left) {
                     *value = left.into();
                 }
@@ -403,7 +416,7 @@ fn random_recipes_run_alike() {
             damage_recipe(&mut rng, &mut words);
         }
         if rng.once_in(10) {
-            count = rng.below(6);
+            count = rng.below(10);
         }
         let colour = random_components(&mut rng, count);
         let reply = run(&words, &colour);
@@ -442,7 +455,7 @@ fn random_recipes_with_programs_run_alike() {
 #[test]
 fn long_recipes_have_the_words_that_are_asked_for() {
     let mut rng = Rng::new(13);
-    for length in (30..200).chain(1_000..1_100) {
+    for length in (30..200).chain(2_850..2_890) {
         for _ in 0..20 {
             let words = long_recipe(&mut rng, length);
             assert_eq!(words.len(), length);
@@ -457,7 +470,7 @@ fn long_recipes_have_the_words_that_are_asked_for() {
 #[test]
 fn long_recipes_with_programs_have_the_words_that_are_asked_for() {
     let mut rng = Rng::new(17);
-    for length in (30..60).chain(1_075..1_095) {
+    for length in (40..70).chain(2_868..2_888) {
         for _ in 0..5 {
             let words = long_program_recipe(&mut rng, length);
             assert_eq!(words.len(), length);
@@ -478,10 +491,10 @@ fn random_words_run_alike() {
         let words: Vec<i32> = (0..length)
             .map(|_| match rng.below(4) {
                 0 => rng.number(),
-                _ => rng.between(0, 12),
+                _ => rng.between(0, 13),
             })
             .collect();
-        let count = rng.below(5);
+        let count = rng.below(9);
         let colour = random_components(&mut rng, count);
         let reply = run(&words, &colour);
         assert_eq!(reply, slow(&words, &colour).unwrap_or(ELEVEN), "{words:?}");
@@ -506,7 +519,7 @@ fn a_recipe_cut_short_is_11() {
             slow(&words, &colour),
             Some(evaluate(&page, number, &colour))
         );
-        words.push(rng.between(0, 12));
+        words.push(rng.between(0, 13));
         assert_eq!(run(&words, &colour), ELEVEN);
         words.pop();
         words.truncate(rng.below(words.len()));

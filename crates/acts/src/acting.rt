@@ -1,6 +1,6 @@
 // The steps on a colour. The words of a step stand at the front of l.
 ghost use mathlib.Core.Path.{_≡_};
-ghost use Prim.Native.Nat.{_+_, _<_, _≤_};
+ghost use Prim.Native.Nat.{_+_, _*_, _<_, _≤_};
 ghost use lib.ListN.{drop};
 ghost use Rattle.fixed.specs.Numbers.{tintValue};
 ghost use Rattle.fixed.specs.Values.{places, value, filled, limitStep, rowStep, tintStep};
@@ -37,7 +37,7 @@ pub fn limit_step(k: u32, lo: i32, hi: i32, c: Colour) -> Colour
 
 // The first m values are the m words from `at` on.
 fn fill_row(l: &[i32], at: usize, m: usize, v: [i32; VALUES]) -> [i32; VALUES]
-    requires { ⌜ (at ≤ 1024) × (m ≤ places) ⌝ }
+    requires { ⌜ (at ≤ places * 256) × (m ≤ places) ⌝ }
     ensures { λ r. ⌜ r ≡ filled (λ k. value (now (l .entry)) (at + k)) m v ⌝ }
 {
     let mut u = v;
@@ -97,9 +97,16 @@ pub fn tint_step(l: &[i32], e: u32, m: u32, c: Colour) -> Colour
     }
 }
 
-// The program of n words after the first three, which leaves m numbers.
-pub fn program_step(l: &[i32], m: u32, n: u32, c: Colour) -> Colour
-    ensures { λ r. ⌜ r ≡ formStep m (partOf (now (l .entry)) 3 n) c ⌝ }
+// The program of n words from `at` on, which takes t values and leaves m numbers.
+pub fn program_step(l: &[i32], t: u32, m: u32, at: u32, n: u32, c: Colour) -> Colour
+    requires { ⌜ t ≤ places ⌝ }
+    ensures { λ r. ⌜ r ≡ formStep t m (partOf (now (l .entry)) at n) c ⌝ }
 {
-    tinting::step(l, 3, n as usize, m as usize, c)
+    let moved = c.moved;
+    let mut v = c.values;
+    let out = tinting::step(l, at as usize, n as usize, t as usize, m as usize, &mut v);
+    Colour {
+        values: v,
+        moved: moved | out,
+    }
 }

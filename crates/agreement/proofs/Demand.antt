@@ -39,10 +39,10 @@ answers cmyk w v = tt
 answers (calGray k) w v = tt
 answers (calRgb k) w v = tt
 answers (lab k al ah bl bh) w v = tt
-answers noMark w v = tt
+answers (noMark i) w v = tt
 answers everyInk w v = tt
-answers (separation e c0 c1 s) w v = answers s (w .4) _
-answers (calculated c s) w v = answers s (w .3) _
+answers (separation e c0 c1 s) w v = answers s (w .5) _
+answers (calculated i c s) w v = answers s (w .3) _
 answers (indexed h t s) w v = answers s (w .3) _
 
 module _ (page : List ℕ) (number : ℕ) (ok : validated page ≡ accepted) where

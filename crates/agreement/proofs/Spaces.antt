@@ -16,11 +16,11 @@ use Rattle.cie.specs.Closings.{closed}
 use Rattle.runner.specs.Runs.{runs, ran}
 use Rattle.runner.proofs.Runs.{count-run, limit-run, tint-run, program-run, row-run, device-gray-run, device-rgb-run, device-cmyk-run, gray-run, rgb-run, lab-run, no-mark-run, every-ink-run}
 use Rattle.stack.specs.Flat.{flat}
-use Rattle.form.specs.Steps.{programStep}
+use Rattle.form.specs.Steps.{programStep, takenBy}
 use Rattle.form.proofs.Filled.{flat-fitting, form-is-program}
 use Rattle.space.specs.Spaces.{Space, none, gray, rgb, cmyk, calGray, calRgb, lab, noMark, everyInk, separation, calculated, indexed, countOf, limitCount, lowOf, highOf, pick3, closingOf}
 use Rattle.space.specs.WellMade.{WellMade}
-use Rattle.space.proofs.Counts.{count-high, limits-high}
+use Rattle.space.proofs.Counts.{taken-high, count-high, limits-high}
 use Rattle.parts.specs.Recipes.{limitWords, limitsOf, closingWords, endsOf, stepsOf, recipeOf}
 use Rattle.recipe.proofs.Longest.{recipe-short}
 use Rattle.values.specs.Limits.{limitedTo}
@@ -67,10 +67,10 @@ count-low cmyk w = omega arith
 count-low (calGray k) w = omega arith
 count-low (calRgb k) w = omega arith
 count-low (lab k al ah bl bh) w = omega arith
-count-low noMark w = omega arith
+count-low (noMark i) w = taken-high i .0
 count-low everyInk w = omega arith
 count-low (separation e c0 c1 s) w = omega arith
-count-low (calculated c s) w = omega arith
+count-low (calculated i c s) w = taken-high i .0
 count-low (indexed h t s) w = omega arith
 
 -- ---- the steps of a space, from any values on
@@ -84,14 +84,14 @@ steps-run cmyk w n c v = ends-run n c cmyk unit-range (device-cmyk-run n c) v
 steps-run (calGray k) w n c v = ends-run n c (calGray k) unit-range (λ u. gray-run n c u k w) v
 steps-run (calRgb k) w n c v = ends-run n c (calRgb k) unit-range (λ u. rgb-run n c u k (w .0) (w .1) (w .2)) v
 steps-run (lab k al ah bl bh) w n c v = ends-run n c (lab k al ah bl bh) (lab-range al ah bl bh (w .0) (w .1)) (λ u. lab-run n c u k) v
-steps-run noMark w n c v = ends-run n c noMark unit-range (no-mark-run n c) v
+steps-run (noMark i) w n c v = ends-run n c (noMark i) unit-range (no-mark-run n c) v
 steps-run everyInk w n c v = ends-run n c everyInk unit-range (every-ink-run n c) v
 steps-run (separation e c0 c1 s) w n c v =
-    tint-run e (countOf s) c0 c1 (stepsOf s) (w .0) (count-low s (w .4)) (count-high s) (w .1) (w .2) n c v
-    ∙ steps-run s (w .4) n c (tintStep e (countOf s) c0 c1 v)
-steps-run (calculated k s) w n c v =
-    program-run (countOf s) (length (flat k)) (flat k) (stepsOf s) refl (flat-fitting k (countOf s) (omega (arith, w .1)) ∙ w .0) n c v
-    ∙ (ap (runs n c (stepsOf s)) (form-is-program (countOf s) k v) ∙ steps-run s (w .3) n c (programStep (countOf s) k v))
+    tint-run e (countOf s) c0 c1 (stepsOf s) (w .0) (count-low s (w .5)) (w .1) (w .2) (w .3) n c v
+    ∙ steps-run s (w .5) n c (tintStep e (countOf s) c0 c1 v)
+steps-run (calculated i k s) w n c v =
+    program-run i (countOf s) (length (flat k)) (flat k) (stepsOf s) refl (flat-fitting k (takenBy i) (countOf s) (omega (arith, w .1)) ∙ w .0) n c v
+    ∙ (ap (runs n c (stepsOf s)) (form-is-program (takenBy i) (countOf s) k v) ∙ steps-run s (w .3) n c (programStep (takenBy i) (countOf s) k v))
 steps-run (indexed h t s) w n c v =
     row-run (countOf s) h t (stepsOf s) (count-low s (w .3)) (count-high s) (w .0) (w .1) n c v
     ∙ steps-run s (w .3) n c (rowStep (countOf s) h t v)

@@ -14,7 +14,8 @@ use Rattle.page.specs.Validation.{validated}
 use Rattle.colour.specs.Evaluating.{evaluated}
 use Rattle.recipe.specs.SpaceWrites.{wrote, refusal as unwritten}
 use Rattle.recipe.specs.PageWrites.{writeReply, writeWords}
-use Rattle.runner.specs.Runs.{longest, ran}
+use Rattle.fixed.specs.Sizes.{longest}
+use Rattle.runner.specs.Runs.{ran}
 
 -- a reply that is an answer, with its floats, and no refusal
 abbrev pub IsAnswer : Reply → Type 0

@@ -14,14 +14,15 @@ use Rattle.layout.specs.Field.{one, two, sizes, written, puts, Bytes}
 use Rattle.layout.proofs.Held.{Holds, held-self, held-left, held-right, held-join, held-whole}
 use Rattle.layout.proofs.Fields.{AllGot, all-heard, all-said, written-length, written-append, got-in-ranges}
 use Rattle.layout.proofs.Puts.{next, puts-written, puts-whole}
-use Rattle.record.specs.Layout.{body, rest, kindOf, fields, plain, check, headOf, blockOf, checked}
+use Rattle.fixed.specs.Loops.{zeroBetween}
+use Rattle.record.specs.Layout.{body, rest, kindOf, namedTo, fields, plain, check, headOf, blockOf, checked}
 use Rattle.record.specs.Reading.{kindAt, bodyBy, bytesBy, recordAt}
 use Rattle.fixed.specs.Bytes.{blocks}
 use Rattle.record.specs.Rules.{wellLaid, wellNamed, wellShaped}
 use Rattle.record.specs.Fits.{Fits}
 use Rattle.record.specs.declared.types.Record.{Record}
 use Rattle.block.proofs.Check.{plain-same, weighed-same, plain-small, weighed-small}
-use Rattle.block.proofs.ByKind.{got-by, bytes-length, sizes-of, kind-small, body-back, gap-back, bytes-back}
+use Rattle.block.proofs.ByKind.{got-by, bytes-length, sizes-of, kind-small, body-back, gap-back, seven-back, bytes-back}
 
 pub head-length : (r : Record) → length (headOf r) ≡ 508
 unfolding headOf
@@ -30,16 +31,17 @@ head-length r = omega (arith, written-length (fields r), sizes-of (r .body) (r .
 -- ---- from a block
 
 module _ (b : List ℕ) (bytes : Bytes b) (k : wellLaid b ≡ true) where
-  kind : kindAt b ≤ 7
+  kind : kindAt b ≤ 8
   unfolding wellLaid
-  kind = leb-true _ 7 (and-left _ _ k)
+  kind = leb-true _ 8 (and-left _ _ k)
 
   -- each field of the record read is what stands at its place
   got : AllGot b 0 (fields (recordAt b))
   unfolding wellLaid recordAt
   got =
-      let rest = and-right (leb (kindAt b) 7) _ k in
-      got-by b (kindAt b) kind refl (eqb-true _ 0 (and-left _ _ rest)) (and-right (eqb (byteAt b 1) 0) _ rest)
+      let rest = and-right (leb (kindAt b) 8) _ k in
+      let zeros = and-right (eqb (byteAt b 1) 0) _ rest in
+      got-by b (kindAt b) kind refl (eqb-true _ 0 (and-left _ _ rest)) (and-left _ _ zeros) (and-right (zeroBetween b (namedTo (bodyBy (kindAt b) b)) 508) _ zeros)
 
   room : length (recordAt b .bytes) ≡ 504
   unfolding recordAt
@@ -95,7 +97,7 @@ read-at r fits s =
       long = long;
       checks =
           rw (eq-eqb _ _ (sums .0 ∙ sym (plain-same (h ++ t) h most left)), eq-eqb _ _ (sums .1 .0 ∙ sym (weighed-same (h ++ t) h most left)));
-      knows = rw (body-is, k, kind-small y, eq-eqb _ 0 (got .1 .0), gap-back (h ++ t) (r .bytes) y (got .1 .1 .1));
+      knows = rw (body-is, k, kind-small y, eq-eqb _ 0 (got .1 .0), gap-back (h ++ t) (r .bytes) y (got .1 .1 .1), seven-back (h ++ t) (r .bytes) y (got .1 .1 .1));
       gives = λ i.
           record {
             own = got .1 .1 .0 i;

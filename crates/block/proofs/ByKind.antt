@@ -1,13 +1,14 @@
 -- Kind by kind: each field of a body is what stands at its place, and the body that is read is that of the fields.
 use mathlib.Core.Path.{_≡_, refl, sym, _∙_}
 use mathlib.Core.List.{List, _∷_, _++_}
-use mathlib.Core.Bool.{true}
+use mathlib.Core.Bool.{true, cond}
 use Prim.Native.Nat.{ℕ, zero, suc, _<_, _≤_}
 use native.Mathlib.Omega.{arith}
 use native.Mathlib.Decide.{decLt}
 use lib.ListN.{length, getD, replicate, length-replicate, getD-replicate}
 use lib.Seq.{ext-getD}
-use lib.Dec.{leb}
+use lib.Dec.{eqb, leb}
+use borrow.Author.Tests.{eqb-true}
 use Rattle.fixed.specs.Bytes.{byteAt, twoAt}
 use Rattle.fixed.specs.Loops.{zeroBetween}
 use Rattle.layout.specs.Field.{Field, one, two, sizes, padded}
@@ -18,7 +19,7 @@ use Rattle.record.specs.Reading.{bodyBy, runAt, bytesBy}
 use Rattle.record.specs.Rules.{used}
 use Rattle.record.proofs.Shapes.{run-at, run-length, run-past}
 use Rattle.record.specs.declared.types.Body.{Body}
-use Rattle.record.specs.declared.types.Body.the-variants.{Free, CalGray, CalRgb, Lab, Indexed, Separation, Palette, Program}
+use Rattle.record.specs.declared.types.Body.the-variants.{Free, CalGray, CalRgb, Lab, Indexed, Separation, Palette, Program, DeviceN}
 
 -- ---- a run in its room
 
@@ -43,7 +44,7 @@ zeros-whole s room z =
     ext-getD 0 (replicate 504 0) s (length-replicate {A = ℕ} 504 0 ∙ sym room)
     (λ i p. let m : i < 504 = rw (length-replicate {A = ℕ} 504 0) at p in getD-replicate 504 i 0 0 m ∙ sym (zero-at s 0 504 i z (omega arith) m))
 
-pub bytes-length : (k : ℕ) (b : List ℕ) → k ≤ 7 → length (bytesBy k b) ≡ 504
+pub bytes-length : (k : ℕ) (b : List ℕ) → k ≤ 8 → length (bytesBy k b) ≡ 504
 unfolding bytesBy
 bytes-length zero b p = length-replicate {A = ℕ} 504 0
 bytes-length (suc zero) b p = length-replicate {A = ℕ} 504 0
@@ -53,7 +54,8 @@ bytes-length (suc (suc (suc (suc zero)))) b p = length-replicate {A = ℕ} 504 0
 bytes-length (suc (suc (suc (suc (suc zero))))) b p = run-length b 8 128 (omega arith)
 bytes-length (suc (suc (suc (suc (suc (suc zero)))))) b p = run-length b 4 504 (omega arith)
 bytes-length (suc (suc (suc (suc (suc (suc (suc zero))))))) b p = run-length b 4 504 (omega arith)
-bytes-length (suc (suc (suc (suc (suc (suc (suc (suc k)))))))) b p = absurd (omega arith)
+bytes-length (suc (suc (suc (suc (suc (suc (suc (suc zero)))))))) b p = run-length b 8 500 (omega arith)
+bytes-length (suc (suc (suc (suc (suc (suc (suc (suc (suc k))))))))) b p = absurd (omega arith)
 
 -- ---- a block that is known, by its kind
 
@@ -62,17 +64,18 @@ abbrev pub fieldsBy : ℕ → List ℕ → List Field
 fieldsBy k b = one (kindOf (bodyBy k b)) ∷ one 0 ∷ two (twoAt b 2) ∷ (body (bodyBy k b) (bytesBy k b) ++ rest (bodyBy k b))
 
 -- each is what stands at its place
-pub got-by : (b : List ℕ) (k : ℕ) → k ≤ 7 → byteAt b 0 ≡ k → byteAt b 1 ≡ 0 → zeroBetween b (namedTo (bodyBy k b)) 508 ≡ true → AllGot b 0 (fieldsBy k b)
+pub got-by : (b : List ℕ) (k : ℕ) → k ≤ 8 → byteAt b 0 ≡ k → byteAt b 1 ≡ 0 → zeroBetween b (namedTo (bodyBy k b)) 508 ≡ true → cond (eqb k 8) (eqb (byteAt b 7) 0) true ≡ true → AllGot b 0 (fieldsBy k b)
 unfolding bodyBy bytesBy
-got-by b zero p e z q = (e, (z, (refl, (q, tt))))
-got-by b (suc zero) p e z q = (e, (z, (refl, (refl, (refl, (refl, (refl, (refl, (refl, (refl, (q, tt)))))))))))
-got-by b (suc (suc zero)) p e z q = (e, (z, (refl, (refl, (refl, (refl, (refl, (refl, (refl, (refl, (refl, (refl, (refl, (refl, (refl, (refl, (refl, (refl, (refl, (refl, (refl, (q, tt))))))))))))))))))))))
-got-by b (suc (suc (suc zero))) p e z q = (e, (z, (refl, (refl, (refl, (refl, (refl, (refl, (refl, (refl, (refl, (refl, (refl, (q, tt))))))))))))))
-got-by b (suc (suc (suc (suc zero)))) p e z q = (e, (z, (refl, (refl, (refl, (q, tt))))))
-got-by b (suc (suc (suc (suc (suc zero))))) p e z q = (e, (z, (refl, (refl, (refl, (refl, (run-held b 8 128, (refl, (refl, (refl, (refl, (refl, (refl, (refl, (refl, (q, tt))))))))))))))))
-got-by b (suc (suc (suc (suc (suc (suc zero)))))) p e z q = (e, (z, (refl, (run-held b 4 504, (q, tt)))))
-got-by b (suc (suc (suc (suc (suc (suc (suc zero))))))) p e z q = (e, (z, (refl, (run-held b 4 504, (q, tt)))))
-got-by b (suc (suc (suc (suc (suc (suc (suc (suc k)))))))) p e z q = absurd (omega arith)
+got-by b zero p e z q x = (e, (z, (refl, (q, tt))))
+got-by b (suc zero) p e z q x = (e, (z, (refl, (refl, (refl, (refl, (refl, (refl, (refl, (refl, (q, tt)))))))))))
+got-by b (suc (suc zero)) p e z q x = (e, (z, (refl, (refl, (refl, (refl, (refl, (refl, (refl, (refl, (refl, (refl, (refl, (refl, (refl, (refl, (refl, (refl, (refl, (refl, (refl, (q, tt))))))))))))))))))))))
+got-by b (suc (suc (suc zero))) p e z q x = (e, (z, (refl, (refl, (refl, (refl, (refl, (refl, (refl, (refl, (refl, (refl, (refl, (q, tt))))))))))))))
+got-by b (suc (suc (suc (suc zero)))) p e z q x = (e, (z, (refl, (refl, (refl, (q, tt))))))
+got-by b (suc (suc (suc (suc (suc zero))))) p e z q x = (e, (z, (refl, (refl, (refl, (refl, (run-held b 8 128, (refl, (refl, (refl, (refl, (refl, (refl, (refl, (refl, (q, tt))))))))))))))))
+got-by b (suc (suc (suc (suc (suc (suc zero)))))) p e z q x = (e, (z, (refl, (run-held b 4 504, (q, tt)))))
+got-by b (suc (suc (suc (suc (suc (suc (suc zero))))))) p e z q x = (e, (z, (refl, (run-held b 4 504, (q, tt)))))
+got-by b (suc (suc (suc (suc (suc (suc (suc (suc zero)))))))) p e z q x = (e, (z, (refl, (refl, (refl, (eqb-true _ _ x, (run-held b 8 500, (q, tt))))))))
+got-by b (suc (suc (suc (suc (suc (suc (suc (suc (suc k))))))))) p e z q x = absurd (omega arith)
 
 -- ---- the record that is read of the fields of a body
 
@@ -85,8 +88,9 @@ sizes-of (Indexed base hival) s = refl
 sizes-of (Separation p) s = refl
 sizes-of Palette s = refl
 sizes-of Program s = refl
+sizes-of (DeviceN alternate count) s = refl
 
-pub kind-small : (y : Body) → leb (kindOf y) 7 ≡ true
+pub kind-small : (y : Body) → leb (kindOf y) 8 ≡ true
 kind-small Free = refl
 kind-small (CalGray g) = refl
 kind-small (CalRgb g) = refl
@@ -95,6 +99,7 @@ kind-small (Indexed base hival) = refl
 kind-small (Separation p) = refl
 kind-small Palette = refl
 kind-small Program = refl
+kind-small (DeviceN alternate count) = refl
 
 module _ (b s : List ℕ) where
   pub body-back : (y : Body) → AllGot b 4 (body y s ++ rest y) → bodyBy (kindOf y) b ≡ y
@@ -107,6 +112,7 @@ module _ (b s : List ℕ) where
   body-back (Separation p) h = λ i. Separation (record { alternate = h .0 i; exponent = h .1 .0 i; «name_len» = h .1 .1 .0 i; c0 = record { a = h .1 .1 .1 .1 .0 i; b = h .1 .1 .1 .1 .1 .0 i; c = h .1 .1 .1 .1 .1 .1 .0 i; d = h .1 .1 .1 .1 .1 .1 .1 .0 i }; c1 = record { a = h .1 .1 .1 .1 .1 .1 .1 .1 .0 i; b = h .1 .1 .1 .1 .1 .1 .1 .1 .1 .0 i; c = h .1 .1 .1 .1 .1 .1 .1 .1 .1 .1 .0 i; d = h .1 .1 .1 .1 .1 .1 .1 .1 .1 .1 .1 .0 i } })
   body-back Palette h = refl
   body-back Program h = refl
+  body-back (DeviceN alternate count) h = λ i. DeviceN (h .0 i) (h .1 .0 i)
 
   pub gap-back : (y : Body) → AllGot b 4 (body y s ++ rest y) → zeroBetween b (namedTo y) 508 ≡ true
   gap-back Free h = h .0
@@ -117,6 +123,19 @@ module _ (b s : List ℕ) where
   gap-back (Separation p) h = h .1 .1 .1 .1 .1 .1 .1 .1 .1 .1 .1 .1 .0
   gap-back Palette h = h .1 .0
   gap-back Program h = h .1 .0
+  gap-back (DeviceN alternate count) h = h .1 .1 .1 .1 .0
+
+  -- byte 7 of a DeviceN
+  pub seven-back : (y : Body) → AllGot b 4 (body y s ++ rest y) → cond (eqb (kindOf y) 8) (eqb (byteAt b 7) 0) true ≡ true
+  seven-back Free h = refl
+  seven-back (CalGray g) h = refl
+  seven-back (CalRgb g) h = refl
+  seven-back (Lab g) h = refl
+  seven-back (Indexed base hival) h = refl
+  seven-back (Separation p) h = refl
+  seven-back Palette h = refl
+  seven-back Program h = refl
+  seven-back (DeviceN alternate count) h = rw (h .1 .1 .0)
 
   pub bytes-back : (y : Body) → length s ≡ 504 → AllGot b 4 (body y s ++ rest y) → zeroBetween s (used y) 504 ≡ true → bytesBy (kindOf y) b ≡ s
   unfolding bytesBy
@@ -128,3 +147,4 @@ module _ (b s : List ℕ) where
   bytes-back (Separation p) room h z = run-back b s 128 8 (omega arith) room (h .1 .1 .1 .0) z
   bytes-back Palette room h z = run-back b s 504 4 (omega arith) room (h .0) z
   bytes-back Program room h z = run-back b s 504 4 (omega arith) room (h .0) z
+  bytes-back (DeviceN alternate count) room h z = run-back b s 500 8 (omega arith) room (h .1 .1 .1 .0) z

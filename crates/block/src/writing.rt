@@ -26,6 +26,10 @@ fn kind_of(y: Body) -> u8
         Body::Separation(_) => 5,
         Body::Palette => 6,
         Body::Program => 7,
+        Body::DeviceN {
+            alternate: _,
+            count: _,
+        } => 8,
     }
 }
 

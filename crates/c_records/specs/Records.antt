@@ -16,7 +16,7 @@ use Rattle.record.specs.declared.types.CalRgb.{CalRgb as RgbSpace}
 use Rattle.record.specs.declared.types.Lab.{Lab as LabSpace}
 use Rattle.record.specs.declared.types.Separation.{Separation as Ink}
 use Rattle.record.specs.declared.types.Body.{Body}
-use Rattle.record.specs.declared.types.Body.the-variants.{Free, CalGray, CalRgb, Lab, Indexed, Separation, Palette, Program}
+use Rattle.record.specs.declared.types.Body.the-variants.{Free, CalGray, CalRgb, Lab, Indexed, Separation, Palette, Program, DeviceN}
 use Rattle.record.specs.declared.types.Record.{Record}
 use Rattle.record.specs.Layout.{kindOf, blockOf}
 use Rattle.record.specs.Reading.{recordAt}
@@ -30,8 +30,8 @@ use Rattle.sktelbaan_runner.specs.Replies.{inHalves}
 abbrev pub small : List ℤ → ℕ → ℕ
 small v k = smallOf (value v k)
 
--- number k in a field of one byte, and of two. One that the field has no room for stands there as FF or as FFFF, and is refused as these are: an own number and the
--- length of a name with 3, hival with 4, an exponent with 5, a reference with 6
+-- number k in a field of one byte, and of two. One that the field has no room for stands there as FF or as FFFF, and is refused as these are: an own number, the
+-- length of a name and a count of names with 3, hival with 4, an exponent with 5, a reference with 6
 abbrev pub oneOf : List ℤ → ℕ → ℕ
 oneOf v k = min (small v k) 255
 
@@ -82,7 +82,8 @@ bodyOf k v =
     (cond (eqb k 4) (Indexed (twoOf v 2) (twoOf v 3))
     (cond (eqb k 5) (Separation (inkOf v))
     (cond (eqb k 6) Palette
-    (cond (eqb k 7) Program Free))))))
+    (cond (eqb k 7) Program
+    (cond (eqb k 8) (DeviceN (twoOf v 2) (oneOf v 3)) Free)))))))
 
 -- the record of the numbers and the first 504 bytes
 unfoldable pub recordOf : List ℤ → List ℕ → Record
@@ -110,6 +111,7 @@ bodyNumbers (Indexed base hival) = pos base ∷ pos hival ∷ []
 bodyNumbers (Separation p) = pos (p .alternate) ∷ pos (p .exponent) ∷ pos (p .«name_len») ∷ four (p .c0) (four (p .c1) [])
 bodyNumbers Palette = []
 bodyNumbers Program = []
+bodyNumbers (DeviceN alternate count) = pos alternate ∷ pos count ∷ []
 
 -- own number and kind before them, and zeros after them: 20 numbers
 abbrev pub headed : ℕ → Body → List ℤ
@@ -129,9 +131,9 @@ namedCount y = 2 + length (bodyNumbers y)
 unfoldable pub zeroFrom : List ℤ → ℕ → Bool
 zeroFrom v from = allBetween (λ k. eqb (small v k) 0) from 20
 
--- a kind 0..7, and zeros where the body names no number: else they are refused with 3
+-- a kind 0..8, and zeros where the body names no number: else they are refused with 3
 unfoldable pub recordLike : List ℤ → Bool
-recordLike v = leb (small v 1) 7 && zeroFrom v (namedCount (bodyOf (small v 1) v))
+recordLike v = leb (small v 1) 8 && zeroFrom v (namedCount (bodyOf (small v 1) v))
 
 -- ---- what the two functions come to
 

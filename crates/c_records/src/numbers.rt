@@ -96,6 +96,13 @@ fn indexed_numbers(own: u16, base: u16, hival: u16) -> [i32; 20]
     laid(own, 4, first, NONE, NONE, NONE, NONE, NONE)
 }
 
+fn device_n_numbers(own: u16, alternate: u16, count: u8) -> [i32; 20]
+    ensures { λ r. ⌜ r ≡ headed own (Body.DeviceN alternate count) ⌝ }
+{
+    let first = triple(alternate as i32, count as i32, 0);
+    laid(own, 8, first, NONE, NONE, NONE, NONE, NONE)
+}
+
 fn ink_numbers(own: u16, p: Separation) -> [i32; 20]
     ensures { λ r. ⌜ r ≡ headed own (Body.Separation p) ⌝ }
 {
@@ -128,5 +135,6 @@ pub fn numbers_of(own: u16, y: Body) -> [i32; 20]
         Body::Separation(p) => ink_numbers(own, p),
         Body::Palette => bare_numbers(own, 6),
         Body::Program => bare_numbers(own, 7),
+        Body::DeviceN { alternate, count } => device_n_numbers(own, alternate, count),
     }
 }

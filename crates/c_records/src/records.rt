@@ -26,6 +26,7 @@ fn named_count(kind: u32) -> usize
         3 => 12,
         4 => 4,
         5 => 13,
+        8 => 4,
         _ => 2,
     }
 }
@@ -50,7 +51,7 @@ pub fn is_record_like(v: &[i32]) -> bool
 {
     let kind = small_at(v, 1);
     let from = named_count(kind);
-    (kind <= 7) & is_zero_from(v, from)
+    (kind <= 8) & is_zero_from(v, from)
 }
 
 // Number k in a field of one byte: as FF where that has no room for it.
@@ -152,6 +153,15 @@ fn lab_of(v: &[i32]) -> Lab
     }
 }
 
+// Alternate 2, count of names 3.
+fn device_n_of(v: &[i32]) -> Body
+    ensures { λ r. ⌜ r ≡ Body.DeviceN (twoOf (now (v .entry)) 2) (oneOf (now (v .entry)) 3) ⌝ }
+{
+    let alternate = two_of(v, 2);
+    let count = one_of(v, 3);
+    Body::DeviceN { alternate, count }
+}
+
 fn indexed_of(v: &[i32]) -> Body
     ensures { λ r. ⌜ r ≡ Body.Indexed (twoOf (now (v .entry)) 2) (twoOf (now (v .entry)) 3) ⌝ }
 {
@@ -188,6 +198,7 @@ fn body_of(kind: u32, v: &[i32]) -> Body
         5 => Body::Separation(ink_of(v)),
         6 => Body::Palette,
         7 => Body::Program,
+        8 => device_n_of(v),
         _ => Body::Free,
     }
 }

@@ -30,21 +30,21 @@ few : (n : ℕ) (l : List ℤ) → n ≤ 800 → length (take n l) ≤ mostWords
 few n l h = rw length-take (omega arith)
 
 module _ (b : Built) (out : List ℤ) (x : Read) (e : builtBy b out ≡ wanted x) where
-  pub judged-none : (m : ℕ) → b ≡ Refused → 16 ≡ refusalBy m x
-  judged-none m r = by x (ap (λ q. builtBy q out) (sym r) ∙ e)
+  pub judged-none : (t m : ℕ) → b ≡ Refused → 16 ≡ refusalBy t m x
+  judged-none t m r = by x (ap (λ q. builtBy q out) (sym r) ∙ e)
     where
-      by : (x : Read) → sixteen ≡ wanted x → 16 ≡ refusalBy m x
+      by : (x : Read) → sixteen ≡ wanted x → 16 ≡ refusalBy t m x
       by (program c) z = absurd (never (flat c) z)
       by unread z = refl
 
-  pub judged-words : (m n : ℕ) → b ≡ Flat n → n ≤ 800 → (r : ℕ) → r ≡ cond (wellFormed (take n out) m) 0 17 → r ≡ refusalBy m x
-  judged-words m n f h r er = by x (ap (λ q. builtBy q out) (sym f) ∙ e)
+  pub judged-words : (t m n : ℕ) → b ≡ Flat n → n ≤ 800 → (r : ℕ) → r ≡ cond (wellFormed (take n out) t m) 0 17 → r ≡ refusalBy t m x
+  judged-words t m n f h r er = by x (ap (λ q. builtBy q out) (sym f) ∙ e)
     where
-      by : (x : Read) → words (take n out) ≡ wanted x → r ≡ refusalBy m x
+      by : (x : Read) → words (take n out) ≡ wanted x → r ≡ refusalBy t m x
       by (program c) z =
           let w : take n out ≡ flat c = words-eq _ _ z in
           let l : length (flat c) ≤ mostWords = rw w at (few n out h) in
-          er ∙ ap (λ (t : Bool). cond t 0 17) (ap (λ (y : List ℤ). wellFormed y m) w ∙ flat-fitting c m l)
+          er ∙ ap (λ (b : Bool). cond b 0 17) (ap (λ (y : List ℤ). wellFormed y t m) w ∙ flat-fitting c t m l)
       by unread z = absurd (never' (take n out) z)
 
   pub words-none : b ≡ Refused → take 0 out ≡ wordsBy x

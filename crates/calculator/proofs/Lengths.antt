@@ -15,9 +15,10 @@ use Rattle.stack.specs.Flat.{plainBy, wordsOf}
 use Rattle.symbols.specs.Tokens.{Token, opens, closes, ifT, ifelseT, copyT, indexT, rollT, numT, opT, other, tokenBy, named, wordToken, braceToken, between, Mode, gap, comment, run, lexed, tokensOf}
 use Rattle.program.specs.Parse.{Held, nothing, last, lastTwo, State, within, whole, start, bad, Count, whole!, broken, countZ, spoiled, counting, rolling, tokens, parsed}
 use Rattle.program.specs.Words.{Mark, mark0, mark1, mark2, Outer, first, second, neither, Words, going, ended!, begin, fails, flushW, heldW, countedW, rolledW, closedW, tokenW, keptOf, tokenK, tokensK}
-use Rattle.program.specs.Texts.{unread, mostTokens, readBy, readTokens, readOf}
+use Rattle.fixed.specs.Sizes.{mostTokens, mostFlat}
+use Rattle.program.specs.Texts.{unread, readBy, readTokens, readOf}
 use Rattle.program.proofs.Compiled.{compiled}
-use Rattle.calculator.specs.Calculator.{wordsBy, mostFlat}
+use Rattle.calculator.specs.Calculator.{wordsBy}
 
 -- ---- the operators of a text are one word each
 

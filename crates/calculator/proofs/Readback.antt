@@ -18,7 +18,8 @@ use Rattle.stack.specs.Flat.{plainBy, twoBy, oneBy}
 use Rattle.symbols.specs.Tokens.{Token, opens, closes, ifT, ifelseT, copyT, indexT, rollT, numT, opT, tokenBy, named, sumNamed, testNamed, truthNamed, stackNamed, wordToken, braceToken, between, gap, comment, run, lexed, beforeZero, tokensOf}
 use Rattle.program.specs.Parse.{countZ, millions, parsed}
 use Rattle.program.specs.Spelling.{opTokens, spelled, written, Within}
-use Rattle.program.specs.Texts.{program, unread, mostTokens, readBy, readTokens, readOf}
+use Rattle.fixed.specs.Sizes.{mostTokens}
+use Rattle.program.specs.Texts.{program, unread, readBy, readTokens, readOf}
 use Rattle.program.proofs.Whole.{read-written}
 use Rattle.calculator.specs.Written.{digits, figures, numberText, opName, tokenText, spaced, programText, Narrow, Writable, Carried}
 use Rattle.calculator.proofs.Digits.{number-token}

@@ -15,20 +15,21 @@ use Rattle.program.specs.Texts.{Read, program, unread, readOf}
 use Rattle.fixed.proofs.Decide.{cond-ind}
 use Rattle.form.specs.Steps.{fitting}
 use Rattle.calculator.proofs.Lengths.{words-few}
-use Rattle.calculator.specs.Calculator.{refusalBy, refusalOf, mostFlat, codeIn, wordsBy, mostBlocks, programsFrom, programRun, textOf, runSize, runText}
+use Rattle.fixed.specs.Sizes.{mostFlat}
+use Rattle.calculator.specs.Calculator.{refusalBy, refusalOf, codeIn, wordsBy, mostBlocks, programsFrom, programRun, textOf, runSize, runText}
 
 pub words-code : (r : Read) → wordsBy r ≡ flat (codeIn r)
 unfolding flat
 words-code (program c) = refl
 words-code unread = refl
 
--- a text that is not refused for m numbers has a program that leaves them
-pub code-fits : (m : ℕ) (l : List ℕ) → refusalOf m l ≡ 0 → fitting m (codeIn (readOf l)) ≡ true
+-- a text that is not refused for t values and m numbers has a program that takes and leaves them
+pub code-fits : (t m : ℕ) (l : List ℕ) → refusalOf t m l ≡ 0 → fitting t m (codeIn (readOf l)) ≡ true
 unfolding refusalOf
-code-fits m l e = by (readOf l) e
+code-fits t m l e = by (readOf l) e
   where
-    by : (r : Read) → refusalBy m r ≡ 0 → fitting m (codeIn r) ≡ true
-    by (program c) h = cond-ind (λ (k : ℕ). k ≡ 0 → fitting m c ≡ true) (fitting m c) (λ t _. t) (λ _ z. absurd (omega arith)) h
+    by : (r : Read) → refusalBy t m r ≡ 0 → fitting t m (codeIn r) ≡ true
+    by (program c) h = cond-ind (λ (k : ℕ). k ≡ 0 → fitting t m c ≡ true) (fitting t m c) (λ b _. b) (λ _ z. absurd (omega arith)) h
     by unread h = absurd (omega arith)
 
 -- and few words

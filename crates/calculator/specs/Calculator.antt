@@ -15,14 +15,14 @@ use Rattle.stack.specs.Flat.{flat}
 use Rattle.program.specs.Texts.{Read, program, unread, readOf}
 use Rattle.form.specs.Steps.{fitting}
 
--- the refusal of a text whose program is to leave m numbers: 16, then 17; 0 where it is accepted
-abbrev pub refusalBy : ℕ → Read → ℕ
-refusalBy m (program c) = cond (fitting m c) 0 17
-refusalBy m unread = 16
+-- the refusal of a text whose program is to take t values and leave m numbers: 16, then 17; 0 where it is accepted
+abbrev pub refusalBy : ℕ → ℕ → Read → ℕ
+refusalBy t m (program c) = cond (fitting t m c) 0 17
+refusalBy t m unread = 16
 
 -- and so of its bytes
-unfoldable pub refusalOf : ℕ → List ℕ → ℕ
-refusalOf m l = refusalBy m (readOf l)
+unfoldable pub refusalOf : ℕ → ℕ → List ℕ → ℕ
+refusalOf t m l = refusalBy t m (readOf l)
 
 -- the program of a text; where it has none, the one that leaves all as it is
 abbrev pub codeIn : Read → Code
@@ -33,10 +33,6 @@ codeIn unread = done
 abbrev pub wordsBy : Read → List ℤ
 wordsBy (program c) = flat c
 wordsBy unread = []
-
--- the most words of a text's program: two for each of 400 tokens but the outer pair
-abbrev pub mostFlat : ℕ
-mostFlat = 796
 
 -- words put from a place on, where there is room for them all
 unfoldable pub putAt : List ℤ → ℕ → List ℤ → List ℤ

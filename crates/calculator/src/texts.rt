@@ -3,8 +3,10 @@ ghost use mathlib.Core.Path.{_≡_};
 ghost use Prim.Native.Nat.{_+_, _≤_};
 ghost use lib.ListN.{length, take};
 ghost use Rattle.program.specs.Texts.{readOf};
+ghost use Rattle.fixed.specs.Values.{places};
 ghost use Rattle.form.specs.Steps.{programStep};
-ghost use Rattle.calculator.specs.Calculator.{codeIn, refusalOf, wordsBy, mostFlat, mostBlocks, programRun, putAt, textByte, textOf, runSize, runText, filledRun};
+ghost use Rattle.fixed.specs.Sizes.{mostFlat};
+ghost use Rattle.calculator.specs.Calculator.{codeIn, refusalOf, wordsBy, mostBlocks, programRun, putAt, textByte, textOf, runSize, runText, filledRun};
 use crate::BLOCKS;
 use crate::TEXT;
 use crate::filling::is_filled;
@@ -74,18 +76,18 @@ pub fn is_filled_run(page: &[u8], n: u16, blocks: u32) -> bool
     is_filled(blocks, &text[..s])
 }
 
-// What the program in the blocks after block n, so many and four at most, is refused with, where it is to leave `count` numbers: 16, then 17; 0 where it is accepted.
+// What the program in the blocks after block n, so many and four at most, is refused with, where it is to take `taken` values and leave `count` numbers: 16, then 17; 0 where it is accepted.
 // It calls itself for the four, and so stays a function of its own when it is compiled: what judging needs takes memory only where there is a program.
-pub fn judge_run(page: &[u8], n: u16, blocks: u32, count: usize) -> u32
-    ensures { λ r. ⌜ r ≡ refusalOf count (runText (now (page .entry)) n blocks) ⌝ }
+pub fn judge_run(page: &[u8], n: u16, blocks: u32, taken: usize, count: usize) -> u32
+    ensures { λ r. ⌜ r ≡ refusalOf taken count (runText (now (page .entry)) n blocks) ⌝ }
 {
     if BLOCKS < blocks {
-        return judge_run(page, n, BLOCKS, count);
+        return judge_run(page, n, BLOCKS, taken, count);
     }
     let mut text = [0u8; TEXT];
     let s = run_size(blocks);
     gather(page, n, s, &mut text);
-    judge(&text[..s], count)
+    judge(&text[..s], taken, count)
 }
 
 // How many words the program in the blocks after block n has.
@@ -110,12 +112,13 @@ pub fn put_run(page: &[u8], n: u16, blocks: u32, out: &mut [i32], at: usize) -> 
     put_words(&text[..s], out, at)
 }
 
-// The colour after the program in the blocks after block n, which takes value 0 and whose `count` results replace the values from 0.
-pub fn step_run(page: &[u8], n: u16, blocks: u32, count: usize, c: Colour) -> Colour
-    ensures { λ r. ⌜ r ≡ programStep count (codeIn (readOf (runText (now (page .entry)) n blocks))) c ⌝ }
+// The colour after the program in the blocks after block n, which takes `taken` values and whose `count` results replace the values from 0.
+pub fn step_run(page: &[u8], n: u16, blocks: u32, taken: usize, count: usize, c: Colour) -> Colour
+    requires { ⌜ taken ≤ places ⌝ }
+    ensures { λ r. ⌜ r ≡ programStep taken count (codeIn (readOf (runText (now (page .entry)) n blocks))) c ⌝ }
 {
     let mut text = [0u8; TEXT];
     let s = run_size(blocks);
     gather(page, n, s, &mut text);
-    step(&text[..s], count, c)
+    step(&text[..s], taken, count, c)
 }

@@ -4,6 +4,7 @@ ghost use Prim.Native.Nat.{_+_, _≤_};
 ghost use lib.ListN.{length, take};
 ghost use lib.Seq.{sets};
 ghost use Rattle.program.specs.Texts.{readOf};
+ghost use Rattle.fixed.specs.Values.{places};
 ghost use Rattle.form.specs.Steps.{programStep};
 ghost use Rattle.calculator.specs.Calculator.{codeIn, wordsBy, putAt};
 use fixed::Colour;
@@ -70,11 +71,18 @@ pub fn put_words(text: &[u8], out: &mut [i32], at: usize) -> usize
     n
 }
 
-// The colour after a text's program, which takes value 0 and whose `count` results replace the values from 0.
-pub fn step(text: &[u8], count: usize, c: Colour) -> Colour
-    ensures { λ r. ⌜ r ≡ programStep count (codeIn (readOf (now (text .entry)))) c ⌝ }
+// The colour after a text's program, which takes `taken` values and whose `count` results replace the values from 0.
+pub fn step(text: &[u8], taken: usize, count: usize, c: Colour) -> Colour
+    requires { ⌜ taken ≤ places ⌝ }
+    ensures { λ r. ⌜ r ≡ programStep taken count (codeIn (readOf (now (text .entry)))) c ⌝ }
 {
     let mut words = [0i32; ROOM];
     let n = compile(text, &mut words);
-    tinting::step(&words, 0, n, count, c)
+    let moved = c.moved;
+    let mut v = c.values;
+    let out = tinting::step(&words, 0, n, taken, count, &mut v);
+    Colour {
+        values: v,
+        moved: moved | out,
+    }
 }

@@ -17,6 +17,9 @@ use text::say_next;
 use text::say_refusal;
 use text::say_size;
 
+// Room for the words of a case: those of the longest recipe, and a few more, for one that is too long.
+const WORDS: usize = fixed::LONGEST + 16;
+
 fn validate_case(page: &[u8]) {
     let v = validate(page);
     match v {
@@ -102,7 +105,7 @@ fn lent(s: &mut [i32], n: usize, page: &[u8], space: u32) {
 }
 
 fn write_case(v: [i32; 24], page: &[u8]) {
-    let mut s = [7i32; 1100];
+    let mut s = [7i32; WORDS];
     lent(&mut s, of_signed(v[2]) as usize, page, of_signed(v[1]));
 }
 
@@ -110,7 +113,7 @@ fn write_case(v: [i32; 24], page: &[u8]) {
 fn words_of(s: &[u8], out: &mut [i32]) {
     let mut i: usize = 0;
     while i < out.len() {
-        if 1200 <= i {
+        if WORDS <= i {
             return;
         }
         let x = number_at(s, (i / 128) as u32, (4 * (i % 128)) as u32);
@@ -120,10 +123,10 @@ fn words_of(s: &[u8], out: &mut [i32]) {
 }
 
 fn run_case(v: [i32; 24], bytes: &[u8]) {
-    let mut s = [0i32; 1100];
+    let mut s = [0i32; WORDS];
     words_of(bytes, &mut s);
     let c = components_from(v, 2);
-    let n = (bytes.len() / 4) % 1101;
+    let n = (bytes.len() / 4) % (WORDS + 1);
     say_answer(run(first(&s, n as u32), first(&c, of_signed(v[1]))));
 }
 

@@ -1,11 +1,12 @@
 -- What the values reply in the space of a level, in the code's own terms: by the space within, or by the closing step.
 use mathlib.Core.Path.{_≡_, refl, ap, _∙_, sym}
 use mathlib.Core.List.{List}
-use Prim.Native.Nat.{ℕ}
+use Prim.Native.Nat.{ℕ, _≤_}
+use native.Mathlib.Omega.{arith}
 use lib.IntN.{ℤ}
 use lib.ListN.{length, take}
 use borrow.Author.Tests.{eq-eqb, ne-eqb}
-use Rattle.fixed.specs.Values.{places, started, tintStep}
+use Rattle.fixed.specs.Values.{places, widest, started, tintStep}
 use Rattle.fixed.specs.declared.values.Colour.{Colour}
 use Rattle.cie.specs.declared.Closing.{Closing}
 use Rattle.cie.specs.declared.Closing.the-variants.{Nothing, Gray, Rgb, Cmyk, CalGray, CalRgb, Lab, NoMark, EveryInk}
@@ -16,13 +17,15 @@ use Rattle.page.specs.Validation.{validated}
 use Rattle.record.specs.Layout.{entriesOf}
 use Rattle.record.specs.declared.types.Ranges.{Ranges}
 use Rattle.record.specs.declared.types.Separation.{Separation as Ink}
-use Rattle.form.specs.Steps.{programStep}
+use Rattle.form.specs.Steps.{takenBy, programStep}
 use Rattle.calculator.specs.Calculator.{codeAfter}
+use Rattle.form.specs.declared.Tints.{Tints}
+use Rattle.space.proofs.Levels.{plain-wide}
 use Rattle.space.specs.Spaces.{Space, countOf, limitCount}
 use Rattle.space.specs.Pages.{plainAt, tintedAt, rowAt, spaceAt}
 use Rattle.space.specs.Levels.{plainIn, spaceIn}
 use Rattle.space.specs.declared.nesting.Level.{Level}
-use Rattle.space.specs.declared.nesting.Level.the-variants.{Plain, Separation, Program, Indexed}
+use Rattle.space.specs.declared.nesting.Level.the-variants.{Plain, Blank, Separation, Program, Indexed}
 use Rattle.values.specs.Limits.{limitedTo}
 use Rattle.values.proofs.Steps.{tint-first}
 use Rattle.colour.specs.Colours.{valued, answered}
@@ -41,6 +44,15 @@ settles (Lab k) q v = refl
 settles NoMark q v = refl
 settles EveryInk q v = refl
 
+-- there is no mark, and nothing is limited
+pub value-blank : (page : List ℕ) {l : Level} (v : Colour) (i : Tints) → l ≡ Blank i → closed NoMark v ≡ valued (spaceIn page l) v
+unfolding spaceIn valued limitedTo
+value-blank page v i el = sym (ap (λ (k : Level). valued (spaceIn page k) v) el)
+
+-- a plain space within has no more components than CMYK
+pub wide-count : (page : List ℕ) (n : ℕ) {s : Space} {m : ℕ} → m ≡ countOf s → s ≡ plainAt page n → m ≤ widest
+wide-count page n em es = omega (arith, em ∙ ap countOf es, plain-wide page n)
+
 -- what the code makes of a level l and the colour v: the colour u, of the space s within or for the closing step
 module _ (page : List ℕ) {l : Level} {u : Colour} (v : Colour) where
   pub value-plain : (c : Closing) (q : Ranges) {m : ℕ} → l ≡ Plain c q → m ≡ limitCount (plainIn c q) → u ≡ limitedTo (plainIn c q) m v → closed c u ≡ valued (spaceIn page l) v
@@ -58,12 +70,12 @@ module _ (page : List ℕ) {l : Level} {u : Colour} (v : Colour) where
         ap (λ (j : ℕ). valued (plainAt page (p .alternate)) (tintStep (p .exponent) j (take j (entriesOf (p .c0))) (take j (entriesOf (p .c1))) v)) w ∙
         sym (ap (λ (k : Level). valued (spaceIn page k) v) el)
 
-    pub value-calculated : (n alternate : ℕ) {m : ℕ} → l ≡ Program n alternate → s ≡ plainAt page alternate → m ≡ countOf s
-        → u ≡ programStep m (codeAfter page n) v → valued s u ≡ valued (spaceIn page l) v
+    pub value-calculated : (n alternate : ℕ) (tints : Tints) {m : ℕ} → l ≡ Program n alternate tints → s ≡ plainAt page alternate → m ≡ countOf s
+        → u ≡ programStep (takenBy tints) m (codeAfter page n) v → valued s u ≡ valued (spaceIn page l) v
     unfolding spaceIn valued
-    value-calculated n alternate {m} el es em eu =
+    value-calculated n alternate tints {m} el es em eu =
         let w : m ≡ countOf (plainAt page alternate) = em ∙ ap countOf es in
-        (λ i. valued (es i) ((eu ∙ ap (λ (j : ℕ). programStep j (codeAfter page n) v) w) i)) ∙
+        (λ i. valued (es i) ((eu ∙ ap (λ (j : ℕ). programStep (takenBy tints) j (codeAfter page n) v) w) i)) ∙
         sym (ap (λ (k : Level). valued (spaceIn page k) v) el)
 
     pub value-indexed : (n base hival : ℕ) → l ≡ Indexed n base hival → s ≡ tintedAt page base → u ≡ rowAt page n hival s v → valued s u ≡ valued (spaceIn page l) v

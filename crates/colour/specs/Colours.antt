@@ -1,4 +1,4 @@
--- FORMAT.md, Colour steps: what a colour of a space is. Each component is limited first; an Indexed or a Separation makes a colour of the space within.
+-- FORMAT.md, Colour steps: what a colour of a space is. Each component is limited first; an Indexed, a Separation or a DeviceN makes a colour of the space within.
 use mathlib.Core.Bool.{cond}
 use mathlib.Core.List.{List}
 use lib.IntN.{ℤ}
@@ -8,11 +8,11 @@ use Rattle.fixed.specs.Values.{places, started, rowStep, tintStep}
 use Rattle.fixed.specs.declared.values.Colour.{Colour}
 use Rattle.cie.specs.Answers.{Reply, refusal}
 use Rattle.cie.specs.Closings.{closed}
-use Rattle.form.specs.Steps.{programStep}
+use Rattle.form.specs.Steps.{takenBy, programStep}
 use Rattle.space.specs.Spaces.{Space, none, gray, rgb, cmyk, calGray, calRgb, lab, noMark, everyInk, separation, calculated, indexed, countOf, limitCount, closingOf}
 use Rattle.values.specs.Limits.{limitedTo}
 
--- a plain space: its components limited, but that of a Separation named None, then its closing step
+-- a plain space: its components limited, but none where there is no mark, then its closing step
 abbrev pub settled : Space → Colour → Reply
 settled s v = closed (closingOf s) (limitedTo s (limitCount s) v)
 
@@ -25,10 +25,10 @@ valued cmyk v = settled cmyk v
 valued (calGray k) v = settled (calGray k) v
 valued (calRgb k) v = settled (calRgb k) v
 valued (lab k al ah bl bh) v = settled (lab k al ah bl bh) v
-valued noMark v = settled noMark v
+valued (noMark i) v = settled (noMark i) v
 valued everyInk v = settled everyInk v
 valued (separation e c0 c1 s) v = valued s (tintStep e (countOf s) c0 c1 v)
-valued (calculated c s) v = valued s (programStep (countOf s) c v)
+valued (calculated i c s) v = valued s (programStep (takenBy i) (countOf s) c v)
 valued (indexed h t s) v = valued s (rowStep (countOf s) h t v)
 
 -- 8 where there is no space, then 9 for a wrong count of components, then the answer

@@ -34,13 +34,24 @@ fn value_in(page: &[u8], l: Level, v: Colour) -> Answered
             let answer = close(c, w[0], w[1], w[2], w[3]);
             Answered { answer, moved }
         }
+        Level::Blank(_) => {
+            let moved = v.moved;
+            Answered {
+                answer: Answer::NoMark,
+                moved,
+            }
+        }
         Level::Separation(p) => {
             let s = plain_at(page, p.alternate);
             value_in(page, s, tint(p, count(s), v))
         }
-        Level::Program { block, alternate } => {
+        Level::Program {
+            block,
+            alternate,
+            tints,
+        } => {
             let s = plain_at(page, alternate);
-            value_in(page, s, calculate(page, block, count(s), v))
+            value_in(page, s, calculate(page, block, tints, count(s), v))
         }
         Level::Indexed { block, base, hival } => {
             let s = tinted_at(page, base);

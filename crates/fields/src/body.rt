@@ -86,7 +86,18 @@ fn put_separation(out: &mut [u8], p: Separation, s: &[u8; 504])
     put_zeros(out, 168, 508);
 }
 
-// Stores the body y; s is the record's room, with its name, palette or program.
+fn put_device_n(out: &mut [u8], alternate: u16, count: u8, s: &[u8; 504])
+    requires { ⌜ length (now out) ≡ 512 ⌝ }
+    ensures { λ _. ⌜ now (out .exit) ≡ puts (now (out .entry)) 4 (body (Body.DeviceN alternate count) (now (s .entry)) ++ rest (Body.DeviceN alternate count)) ⌝ }
+{
+    put_two(out, 4, alternate as u32);
+    put_one(out, 6, count);
+    put_one(out, 7, 0);
+    put_run(out, 8, s, 500);
+    put_zeros(out, 508, 508);
+}
+
+// Stores the body y; s is the record's room, with its name, names, palette or program.
 pub fn put_body(out: &mut [u8], y: Body, s: &[u8; 504])
     requires { ⌜ length (now out) ≡ 512 ⌝ }
     ensures { λ _. ⌜ now (out .exit) ≡ puts (now (out .entry)) 4 (body y (now (s .entry)) ++ rest y) ⌝ }
@@ -115,6 +126,9 @@ pub fn put_body(out: &mut [u8], y: Body, s: &[u8; 504])
         }
         Body::Program => {
             put_run(out, 4, s, 504);
+        }
+        Body::DeviceN { alternate, count } => {
+            put_device_n(out, alternate, count, s);
         }
     }
 }

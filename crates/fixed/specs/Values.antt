@@ -1,16 +1,33 @@
 -- FORMAT.md, Colour steps and Recipes: the steps of a colour. A colour on its way is its values, a list of numbers in millionths of any length, and whether a
 -- limit has moved anything so far.
 use Prim.Native.Nat.{ℕ, zero, suc, _+_, _*_}
-use mathlib.Core.Bool.{false, _||_}
+use mathlib.Core.Bool.{Bool, false, _&&_, _||_}
 use mathlib.Core.List.{List, [], _∷_, _++_}
 use lib.IntN.{ℤ, pos, negsuc, natAbs}
+use lib.Dec.{leb}
 use lib.ListN.{getD, set}
 use Rattle.fixed.specs.Numbers.{limited, outside, roundIndex, indexOutside, tintPower, tintValue}
 use Rattle.fixed.specs.declared.values.Colour.{Colour}
 
 -- how many values there are
 abbrev pub places : ℕ
-places = 4
+places = 8
+
+-- the most components of a plain space, which are CMYK's: a tint and a program make no more
+abbrev pub widest : ℕ
+widest = 4
+
+-- a count of 1 to `top`
+abbrev pub upTo : ℕ → ℕ → Bool
+upTo top m = leb 1 m && leb m top
+
+-- a count of values: what a recipe begins from, the entries of a row, what a program takes
+abbrev pub fills : ℕ → Bool
+fills m = upTo places m
+
+-- a count of components that a tint or a program makes
+abbrev pub makes : ℕ → Bool
+makes m = upTo widest m
 
 -- value k, 0 where there is none
 abbrev pub value : List ℤ → ℕ → ℤ

@@ -29,7 +29,19 @@ pub use values::start;
 pub use values::value_at;
 
 // How many values a colour's steps act on.
-pub const VALUES: usize = 4;
+pub const VALUES: usize = 8;
+
+// The most components of a plain space, which are CMYK's.
+pub const WIDEST: usize = 4;
+
+// The most tokens of a program, braces counted.
+pub const TOKENS: usize = 400;
+
+// The most words of its flat form: two for each token, and none for the outer pair.
+pub const FLAT: usize = 2 * (TOKENS - 2);
+
+// The most words of a recipe: the count, step 2 with 256 rows, step 13 with the most words of a program, CalRGB's limits and closing step.
+pub const LONGEST: usize = 1 + (3 + VALUES * 256) + (4 + FLAT) + (3 * 4 + 13);
 
 // The greatest gamma, in tenths.
 pub const TENTHS: u32 = 40;

@@ -40,10 +40,10 @@ unfolding bitsOf stackOf
 zeros-bits n zero = refl
 zeros-bits n (suc h) = ap (λ (z : ℤ). bitsOf (z ∷ stackOf (replicate n (pos 0)) h)) (zeroZ n h) ∙ ap (λ (l : List ℤ). pos 0 ∷ l) (zeros-bits n h)
 
-starts : (n : ℕ) (b : Bool) (ps : List Place) → arrived b ps ≡ startOf n → at ps ≡ startOf n
+starts : (t n : ℕ) (b : Bool) (ps : List Place) → arrived b ps ≡ startOf t n → at ps ≡ startOf t n
 unfolding comes
-starts n true ps e = e
-starts n false ps e = let z : ill ≡ at (met (pos 0 ∷ []) ∷ replicate n unmet) = e ∙ ap (λ (k : ℕ). comes (pos 0 ∷ []) 0 (replicate k unmet)) (let f : n + 1 ≡ suc n = omega arith in f) in cc
+starts t n true ps e = e
+starts t n false ps e = let z : ill ≡ at (met (replicate t (pos 0)) ∷ replicate n unmet) = e ∙ ap (λ (k : ℕ). comes (replicate t (pos 0)) 0 (replicate k unmet)) (let f : n + 1 ≡ suc n = omega arith in f) in cc
 
 none-left : (count : ℕ) → false ≡ leavesNumbers count wrong
 unfolding leavesNumbers
@@ -53,17 +53,17 @@ few-left : (count : ℕ) (ks : List ℤ) → (length ks ≡ count → ⊥) → f
 unfolding leavesNumbers
 few-left count ks ne = sym (same-long (replicate count (pos 0)) ks (λ e. ne (sym e ∙ length-replicate count (pos 0))))
 
-module _ (m k n : ℕ) (b : Bool) (t : List ℕ) (e : arrived b (placesFrom t 0 (n + 1)) ≡ comes (bitsOf (stackOf (replicate k (pos 0)) 1)) 0 (placesFrom (replicate m 0) 0 (n + 1))) (ws : List ℤ) (r : ℕ) (u : List ℕ) (v : verdict r u n ≡ checks ws 0 (at (placesFrom t 0 (n + 1)))) (count : ℕ) where
-  checked : verdict r u n ≡ checks ws 0 (startOf n)
-  checked = v ∙ ap (checks ws 0) (starts n b (placesFrom t 0 (n + 1)) (e ∙ (λ i. comes (zeros-bits k 1 i) 0 (zeros-places m 0 (n + 1) i))))
+module _ (m k taken n : ℕ) (b : Bool) (t : List ℕ) (e : arrived b (placesFrom t 0 (n + 1)) ≡ comes (bitsOf (stackOf (replicate k (pos 0)) taken)) 0 (placesFrom (replicate m 0) 0 (n + 1))) (ws : List ℤ) (r : ℕ) (u : List ℕ) (v : verdict r u n ≡ checks ws 0 (at (placesFrom t 0 (n + 1)))) (count : ℕ) where
+  checked : verdict r u n ≡ checks ws 0 (startOf taken n)
+  checked = v ∙ ap (checks ws 0) (starts taken n b (placesFrom t 0 (n + 1)) (e ∙ (λ i. comes (zeros-bits k taken i) 0 (zeros-places m 0 (n + 1) i))))
 
-  pub form-right : r ≡ count + 1 → (j : ℕ) (s : Bool) → s ≡ sameKinds (bitsOf (stackOf (replicate j (pos 0)) count)) (kindsAt u n count) → s ≡ leavesNumbers count (checks ws 0 (startOf n))
+  pub form-right : r ≡ count + 1 → (j : ℕ) (s : Bool) → s ≡ sameKinds (bitsOf (stackOf (replicate j (pos 0)) count)) (kindsAt u n count) → s ≡ leavesNumbers count (checks ws 0 (startOf taken n))
   unfolding leavesNumbers
   form-right er j s es =
       es ∙ (ap (λ (l : List ℤ). sameKinds l (kindsAt u n count)) (zeros-bits j count)
       ∙ ap (leavesNumbers count) (ap (λ (i : ℕ). verdict i u n) (let f : suc count ≡ r = omega arith in f) ∙ checked))
 
-  pub form-wrong : (r ≡ count + 1 → ⊥) → false ≡ leavesNumbers count (checks ws 0 (startOf n))
+  pub form-wrong : (r ≡ count + 1 → ⊥) → false ≡ leavesNumbers count (checks ws 0 (startOf taken n))
   form-wrong ne = by r ne ∙ ap (leavesNumbers count) checked
     where
       by : (j : ℕ) → (j ≡ count + 1 → ⊥) → false ≡ leavesNumbers count (verdict j u n)
@@ -75,6 +75,6 @@ unfolding unmets
 unmets-replicate zero = refl
 unmets-replicate (suc n) = ap (λ (l : List Place). unmet ∷ l) (unmets-replicate n) ∙ ap (λ (k : ℕ). replicate k unmet) (let e : suc (n + 1) ≡ suc n + 1 = omega arith in e)
 
--- a program's words are well-formed for m numbers just where the program is judged right and leaves m numbers
-pub formed-judged : (c : Code) → checks (flat c) 0 (startOf (length (flat c))) ≡ judged c (pos 0 ∷ [])
-formed-judged c = ap (λ (l : List Place). checks (flat c) 0 (comes (pos 0 ∷ []) 0 l)) (sym (unmets-replicate (length (flat c)))) ∙ flat-judged c (pos 0 ∷ [])
+-- a program's words are well-formed for t values and m numbers just where the program is judged right and leaves m numbers
+pub formed-judged : (t : ℕ) (c : Code) → checks (flat c) 0 (startOf t (length (flat c))) ≡ judged c (replicate t (pos 0))
+formed-judged t c = ap (λ (l : List Place). checks (flat c) 0 (comes (replicate t (pos 0)) 0 l)) (sym (unmets-replicate (length (flat c)))) ∙ flat-judged c (replicate t (pos 0))

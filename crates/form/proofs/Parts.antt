@@ -9,10 +9,10 @@ use lib.IntN.{ℤ}
 use lib.Dec.{leb}
 use lib.ListN.{length, take, drop, length-append, length-take, length-drop, drop-of-length-le}
 use lib.Seq.{take-all, take-take, take-at, drop-at, length-take-le}
-use Rattle.fixed.specs.Values.{places}
+use Rattle.fixed.specs.Values.{places, widest, fills, makes}
 use Rattle.fixed.proofs.Decide.{and-left, and-right, both}
 use Rattle.form.specs.Paths.{formed}
-use Rattle.form.specs.Steps.{fills, mostWords, wellFormed, partOf, formAt}
+use Rattle.form.specs.Steps.{mostWords, wellFormed, partOf, formAt}
 
 -- words that follow them are left out
 cut : (at n k : ℕ) (ws : List ℤ) → at + n ≤ k → partOf (take k ws) at n ≡ partOf ws at n
@@ -21,18 +21,22 @@ cut (suc at) n zero ws h = absurd (omega arith)
 cut (suc at) n (suc k) [] h = refl
 cut (suc at) n (suc k) (w ∷ ws) h = cut at n k ws (omega arith)
 
+-- the first n of more words are fewer
+pub first-fewer : (n : ℕ) (ws : List ℤ) → n < length ws → length (take n ws) < length ws
+first-fewer n ws h = let e : length (take n ws) ≡ n = length-take-le n ws (omega arith) in omega arith
+
 module _ (ws : List ℤ) (at n : ℕ) where
-  pub form-past : (m : ℕ) → length ws < at + n → false ≡ formAt ws at n m
+  pub form-past : (t m : ℕ) → length ws < at + n → false ≡ formAt ws at n t m
   unfolding formAt
-  form-past m h = simp (lt-leb (at + n) (length ws) h)
+  form-past t m h = simp (lt-leb (at + n) (length ws) h)
 
   -- the words up to the form's end: they are fewer, and the form is the same
   pub cut-shorter : at ≤ length ws → n < length ws - at → length (take ((at + n) - 0) ws) < length ws
-  cut-shorter g h = let e : length (take ((at + n) - 0) ws) ≡ (at + n) - 0 = length-take-le ((at + n) - 0) ws (omega arith) in omega arith
+  cut-shorter g h = first-fewer ((at + n) - 0) ws (omega arith)
 
-  pub form-cut : (m : ℕ) → at ≤ length ws → n < length ws - at → formAt (take ((at + n) - 0) ws) at n m ≡ formAt ws at n m
+  pub form-cut : (t m : ℕ) → at ≤ length ws → n < length ws - at → formAt (take ((at + n) - 0) ws) at n t m ≡ formAt ws at n t m
   unfolding formAt
-  form-cut m g h =
+  form-cut t m g h =
       let e : length (take ((at + n) - 0) ws) ≡ (at + n) - 0 = length-take-le ((at + n) - 0) ws (omega arith) in
       let a : at + n ≤ length (take ((at + n) - 0) ws) = omega arith in
       let b : at + n ≤ length ws = omega arith in
@@ -40,11 +44,11 @@ module _ (ws : List ℤ) (at n : ℕ) where
       simp (le-leb (at + n) (length (take ((at + n) - 0) ws)) a, le-leb (at + n) (length ws) b, cut at n ((at + n) - 0) ws c)
 
   -- the words from `at` on, where there are just n
-  pub form-end : (m : ℕ) → at ≤ length ws → n ≡ length ws - at → wellFormed (take (length ws - at) (drop at ws)) m ≡ formAt ws at n m
+  pub form-end : (t m : ℕ) → at ≤ length ws → n ≡ length ws - at → wellFormed (take (length ws - at) (drop at ws)) t m ≡ formAt ws at n t m
   unfolding formAt
-  form-end m g h =
+  form-end t m g h =
       let b : at + n ≤ length ws = omega arith in
-      ap (λ (j : ℕ). wellFormed (take j (drop at ws)) m) (sym h) ∙ simp (le-leb (at + n) (length ws) b)
+      ap (λ (j : ℕ). wellFormed (take j (drop at ws)) t m) (sym h) ∙ simp (le-leb (at + n) (length ws) b)
 
   pub part-in : take ((at + n) - at) (drop at ws) ≡ partOf ws at n
   part-in = let k : (at + n) - at ≡ n = omega arith in ap (λ (j : ℕ). take j (drop at ws)) k
@@ -57,26 +61,30 @@ module _ (ws : List ℤ) (at n : ℕ) where
 
 -- ---- what is known of a flat form that stands among other words
 
-pub record Placed (ws : List ℤ) (at n m : ℕ) : Type 0 where
+pub record Placed (ws : List ℤ) (at n t m : ℕ) : Type 0 where
   pub there : at + n ≤ length ws
+  pub takes : t ≤ places
   pub low : 1 ≤ m
-  pub high : m ≤ places
+  pub high : m ≤ widest
   pub few : n ≤ mostWords
 
-pub form-placed : (ws : List ℤ) (at n m : ℕ) → formAt ws at n m ≡ true → Placed ws at n m
+pub form-placed : (ws : List ℤ) (at n t m : ℕ) → formAt ws at n t m ≡ true → Placed ws at n t m
 unfolding formAt wellFormed
-form-placed ws at n m e =
+form-placed ws at n t m e =
     let part = partOf ws at n in
-    let right = and-right (leb (at + n) (length ws)) (wellFormed part m) e in
-    let count = and-left (fills m) (leb (length part) mostWords && formed part m) right in
-    let size = and-right (fills m) (leb (length part) mostWords && formed part m) right in
-    let h : at + n ≤ length ws = leb-true _ _ (and-left (leb (at + n) (length ws)) (wellFormed part m) e) in
-    let k : length part ≤ mostWords = leb-true _ _ (and-left (leb (length part) mostWords) (formed part m) size) in
+    let right = and-right (leb (at + n) (length ws)) (wellFormed part t m) e in
+    let counts = and-left (fills t && makes m) (leb (length part) mostWords && formed part t m) right in
+    let size = and-right (fills t && makes m) (leb (length part) mostWords && formed part t m) right in
+    let taken = and-left (fills t) (makes m) counts in
+    let count = and-right (fills t) (makes m) counts in
+    let h : at + n ≤ length ws = leb-true _ _ (and-left (leb (at + n) (length ws)) (wellFormed part t m) e) in
+    let k : length part ≤ mostWords = leb-true _ _ (and-left (leb (length part) mostWords) (formed part t m) size) in
     let l : length part ≡ n = simp (length-take, length-drop) (omega arith) in
     record {
       there = h;
-      low = leb-true _ _ (and-left (leb 1 m) (leb m places) count);
-      high = leb-true _ _ (and-right (leb 1 m) (leb m places) count);
+      takes = leb-true _ _ (and-right (leb 1 t) (leb t places) taken);
+      low = leb-true _ _ (and-left (leb 1 m) (leb m widest) count);
+      high = leb-true _ _ (and-right (leb 1 m) (leb m widest) count);
       few = omega arith;
     }
 
@@ -86,8 +94,8 @@ module _ (before ws after : List ℤ) (at n : ℕ) (e : length before ≡ at) (f
   pub part-there : partOf (before ++ (ws ++ after)) at n ≡ ws
   part-there = ap (take n) (drop-at before (ws ++ after) at e) ∙ take-at ws after n f
 
-  pub form-there : (m : ℕ) → wellFormed ws m ≡ true → formAt (before ++ (ws ++ after)) at n m ≡ true
+  pub form-there : (t m : ℕ) → wellFormed ws t m ≡ true → formAt (before ++ (ws ++ after)) at n t m ≡ true
   unfolding formAt
-  form-there m g =
+  form-there t m g =
       both (le-leb (at + n) (length (before ++ (ws ++ after))) (simp length-append (omega arith)))
-      (ap (λ (l : List ℤ). wellFormed l m) part-there ∙ g)
+      (ap (λ (l : List ℤ). wellFormed l t m) part-there ∙ g)

@@ -82,15 +82,15 @@ checks (w ∷ ws) (suc n) (at (met ks ∷ ps)) = wrong
 checks (w ∷ ws) zero (at (unmet ∷ ps)) = wrong
 checks (w ∷ ws) zero (at (met ks ∷ ps)) = checks ws (widthOf (itemOf (w ∷ ws))) (leaves (itemOf (w ∷ ws)) ks ps)
 
--- n words: at the first stands one number, and no path came yet to the others or to the end
-abbrev pub startOf : ℕ → Places
-startOf n = comes (pos 0 ∷ []) 0 (replicate (n + 1) unmet)
+-- n words: at the first stand `taken` numbers, and no path came yet to the others or to the end
+abbrev pub startOf : ℕ → ℕ → Places
+startOf taken n = comes (replicate taken (pos 0)) 0 (replicate (n + 1) unmet)
 
 -- just this count of numbers is left
 unfoldable pub leavesNumbers : ℕ → Judged → Bool
 leavesNumbers count (fits ks) = sameKinds (replicate count (pos 0)) ks
 leavesNumbers count wrong = false
 
--- the words are the flat form of a program that takes one number and leaves `count` numbers
-unfoldable pub formed : List ℤ → ℕ → Bool
-formed ws count = leavesNumbers count (checks ws 0 (startOf (length ws)))
+-- the words are the flat form of a program that takes `taken` numbers and leaves `count` numbers
+unfoldable pub formed : List ℤ → ℕ → ℕ → Bool
+formed ws taken count = leavesNumbers count (checks ws 0 (startOf taken (length ws)))

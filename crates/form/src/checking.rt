@@ -1,19 +1,24 @@
 // Checking a flat form, one word after the other.
 ghost use mathlib.Core.Path.{_≡_};
 ghost use Prim.Native.Nat.{_≤_, _<_, _+_, _*_};
-ghost use lib.ListN.{drop, length, replicate};
-ghost use Rattle.fixed.specs.Values.{places};
+ghost use lib.ListN.{drop, length, replicate, take};
+ghost use Rattle.fixed.specs.Values.{places, widest};
+ghost use Rattle.fixed.specs.Sizes.{mostFlat};
 ghost use Rattle.stack.specs.Stack.{most};
 ghost use Rattle.form.specs.Table.{placesFrom, Low, passed, verdict};
 ghost use Rattle.form.specs.Paths.{at, checks, formed};
 ghost use Rattle.form.specs.Steps.{mostWords, wellFormed};
+use crate::FLAT_TABLE;
+use crate::TABLE;
 use crate::WORDS;
 use crate::paths::leave;
 use crate::table::alike;
 use crate::table::arrive;
 use crate::table::head;
 use crate::table::load;
+use fixed::FLAT;
 use fixed::VALUES;
+use fixed::WIDEST;
 use stack::MOST;
 use stack::code;
 use stack::size;
@@ -70,15 +75,15 @@ fn check(words: &[i32], t: &mut [u64], a: &mut [i32]) -> usize
     head(t, p)
 }
 
-// Are the words the flat form of a program that takes one number and leaves `count` numbers? The table is lent, all zeros.
-fn formed_in(words: &[i32], count: usize, t: &mut [u64]) -> bool
-    requires { ⌜ (2 * (length (now words) + 1) ≤ length (now t)) × (count ≤ places) × (now t ≡ replicate (length (now t)) 0) ⌝ }
-    ensures { λ r. ⌜ r ≡ formed (now (words .entry)) count ⌝ }
+// Are the words the flat form of a program that takes `taken` numbers and leaves `count` numbers? The table is lent, all zeros.
+fn formed_in(words: &[i32], taken: usize, count: usize, t: &mut [u64]) -> bool
+    requires { ⌜ (2 * (length (now words) + 1) ≤ length (now t)) × (taken ≤ places) × (count ≤ widest) × (now t ≡ replicate (length (now t)) 0) ⌝ }
+    ensures { λ r. ⌜ r ≡ formed (now (words .entry)) taken count ⌝ }
 {
     let mut a = [0i32; MOST];
-    let z = [0i32; VALUES];
+    let z = [0i32; WIDEST];
     let n = words.len();
-    arrive(t, n + 1, 0, &a, 1);
+    arrive(t, n + 1, 0, &a, taken);
     let r = check(words, t, &mut a);
     if r == count + 1 {
         load(t, n, count, &mut a);
@@ -87,26 +92,56 @@ fn formed_in(words: &[i32], count: usize, t: &mut [u64]) -> bool
     false
 }
 
-// The same, with a table of its own: a short one for few words, so that little is cleared.
-fn is_well_formed(words: &[i32], count: usize) -> bool
-    requires { ⌜ (length (now words) ≤ mostWords) × (count ≤ places) ⌝ }
-    ensures { λ r. ⌜ r ≡ formed (now (words .entry)) count ⌝ }
+// The same of the first words, as many as a form may have. It calls itself where there are more, and so stays a function of its own when it is compiled: its table takes memory only
+// where it is called. `formed_on_page` does the same of the words that a program of a page may have.
+fn formed_long(words: &[i32], taken: usize, count: usize) -> bool
+    requires { ⌜ (taken ≤ places) × (count ≤ widest) ⌝ }
+    ensures { λ r. ⌜ r ≡ formed (take mostWords (now (words .entry))) taken count ⌝ }
+{
+    if WORDS < words.len() {
+        return formed_long(&words[..WORDS], taken, count);
+    }
+    let mut t = [0u64; TABLE];
+    formed_in(words, taken, count, &mut t)
+}
+
+fn formed_on_page(words: &[i32], taken: usize, count: usize) -> bool
+    requires { ⌜ (taken ≤ places) × (count ≤ widest) ⌝ }
+    ensures { λ r. ⌜ r ≡ formed (take mostFlat (now (words .entry))) taken count ⌝ }
+{
+    if FLAT < words.len() {
+        return formed_on_page(&words[..FLAT], taken, count);
+    }
+    let mut t = [0u64; FLAT_TABLE];
+    formed_in(words, taken, count, &mut t)
+}
+
+// The same, with a table of its own: a shorter one for fewer words, so that less is cleared and less of the machine's stack is taken.
+fn is_well_formed(words: &[i32], taken: usize, count: usize) -> bool
+    requires { ⌜ (length (now words) ≤ mostWords) × (taken ≤ places) × (count ≤ widest) ⌝ }
+    ensures { λ r. ⌜ r ≡ formed (now (words .entry)) taken count ⌝ }
 {
     if words.len() < 32 {
         let mut s = [0u64; 64];
-        return formed_in(words, count, &mut s);
+        return formed_in(words, taken, count, &mut s);
     }
-    let mut t = [0u64; 2162];
-    formed_in(words, count, &mut t)
+    if words.len() < 160 {
+        let mut s = [0u64; 320];
+        return formed_in(words, taken, count, &mut s);
+    }
+    if words.len() <= FLAT {
+        return formed_on_page(words, taken, count);
+    }
+    formed_long(words, taken, count)
 }
 
-// Are the words a flat form that leaves `count` numbers, 1 to 4?
-pub fn is_form(words: &[i32], count: usize) -> bool
-    ensures { λ r. ⌜ r ≡ wellFormed (now (words .entry)) count ⌝ }
+// Are the words a flat form that takes `taken` values, 1 to 8, and leaves `count` numbers, 1 to 4?
+pub fn is_form(words: &[i32], taken: usize, count: usize) -> bool
+    ensures { λ r. ⌜ r ≡ wellFormed (now (words .entry)) taken count ⌝ }
 {
-    if (1 <= count) & (count <= VALUES) {
+    if ((1 <= taken) & (taken <= VALUES)) & ((1 <= count) & (count <= WIDEST)) {
         if words.len() <= WORDS {
-            return is_well_formed(words, count);
+            return is_well_formed(words, taken, count);
         }
         return false;
     }

@@ -16,7 +16,7 @@ use Rattle.record.specs.Reading.{bodyAt, runAt, nameFrom, recordAt}
 use Rattle.record.specs.Rules.{nameFits, wellLaid, wellFormed, wellNamed}
 use Rattle.record.specs.declared.types.Separation.{Separation as InkRecord}
 use Rattle.record.specs.declared.types.Body.{Body}
-use Rattle.record.specs.declared.types.Body.the-variants.{Free, CalGray, CalRgb, Lab, Indexed, Separation, Palette, Program}
+use Rattle.record.specs.declared.types.Body.the-variants.{Free, CalGray, CalRgb, Lab, Indexed, Separation, Palette, Program, DeviceN}
 use Rattle.record.proofs.Shapes.{run-at, run-length, name-run, shown-named}
 use Rattle.page.specs.Outcomes.{accepted}
 use Rattle.page.specs.Validation.{validated}
@@ -57,6 +57,7 @@ ink-separation (Indexed base hival) s name e = absurd (true≢false (sym e))
 ink-separation (Separation p) s name e = (p, (refl, e))
 ink-separation Palette s name e = absurd (true≢false (sym e))
 ink-separation Program s name e = absurd (true≢false (sym e))
+ink-separation (DeviceN alternate count) s name e = absurd (true≢false (sym e))
 
 -- a block of body y is an ink by that body
 pub ink-by : (page name : List ℕ) (n : ℕ) {y : Body} → y ≡ bodyAt (blockAt page n) → inkAt page name n ≡ inkNamed y (recordAt (blockAt page n) .bytes) name

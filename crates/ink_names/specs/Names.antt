@@ -8,7 +8,7 @@ use Rattle.fixed.specs.Bytes.{blockAt, byteAt}
 use Rattle.fixed.specs.Loops.{allBetween}
 use Rattle.record.specs.Reading.{bodyAt, recordAt, nameFrom}
 use Rattle.record.specs.declared.types.Body.{Body}
-use Rattle.record.specs.declared.types.Body.the-variants.{Free, CalGray, CalRgb, Lab, Indexed, Separation, Palette, Program}
+use Rattle.record.specs.declared.types.Body.the-variants.{Free, CalGray, CalRgb, Lab, Indexed, Separation, Palette, Program, DeviceN}
 
 -- how many bytes a Separation's name has; no other body has a name
 abbrev pub nameLength : Body → ℕ
@@ -20,6 +20,7 @@ nameLength (Indexed base hival) = 0
 nameLength (Separation p) = p .«name_len»
 nameLength Palette = 0
 nameLength Program = 0
+nameLength (DeviceN alternate count) = 0
 
 -- two names are the same where they are as long, and the same byte by byte
 unfoldable pub sameName : List ℕ → List ℕ → Bool
@@ -35,6 +36,7 @@ inkNamed (Indexed base hival) s name = false
 inkNamed (Separation p) s name = sameName (take (p .«name_len») s) name
 inkNamed Palette s name = false
 inkNamed Program s name = false
+inkNamed (DeviceN alternate count) s name = false
 
 -- block n of a page is an ink of that name
 unfoldable pub inkAt : List ℕ → List ℕ → ℕ → Bool

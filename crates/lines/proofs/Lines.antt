@@ -19,9 +19,9 @@ use Rattle.digits.specs.Puts.{Put}
 use Rattle.digits.proofs.Putting.{then, same, wider, sets-over}
 
 -- what is no other family is Separation
-pub last-family : (k : ℕ) → (k ≡ 1 → ⊥) → (k ≡ 2 → ⊥) → (k ≡ 3 → ⊥) → (k ≡ 4 → ⊥) → familyOf k ≡ text "Separation"
+pub last-family : (k : ℕ) → (k ≡ 1 → ⊥) → (k ≡ 2 → ⊥) → (k ≡ 3 → ⊥) → (k ≡ 4 → ⊥) → (k ≡ 8 → ⊥) → familyOf k ≡ text "Separation"
 unfolding familyOf
-last-family k a b c d = rw (ne-eqb k 1 a, ne-eqb k 2 b, ne-eqb k 3 c, ne-eqb k 4 d)
+last-family k a b c d e = rw (ne-eqb k 1 a, ne-eqb k 2 b, ne-eqb k 3 c, ne-eqb k 4 d, ne-eqb k 8 e)
 
 -- a line is its columns
 pub columns : {at a b c r : ℕ} {d e f g h : List ℕ} (i k m w kind : ℕ) (s : Space) → k ≡ kind → m ≡ countOf s → w ≡ wordsOf s

@@ -1,12 +1,12 @@
 -- FORMAT.md, The listing: the count of blocks, then number, family, component count and recipe words of each space; a refused page has one line, as
 -- `refused 2 block 0`. A space between two columns, and a newline after every line.
 use Prim.Native.Nat.{ℕ, zero, suc, _+_, _*_, _/_}
-use mathlib.Core.Bool.{Bool, _&&_, cond}
+use mathlib.Core.Bool.{Bool, cond}
 use mathlib.Core.List.{List, [], _++_}
-use lib.Dec.{eqb, leb}
+use lib.Dec.{eqb}
 use lib.ListN.{length}
 use Rattle.fixed.specs.Bytes.{blocks}
-use Rattle.space.specs.Numbers.{kindNumbered}
+use Rattle.space.specs.Numbers.{spaceKind, kindNumbered}
 use Rattle.space.specs.Spaces.{Space, countOf, wordsOf}
 use Rattle.space.specs.Pages.{spaceAt}
 use Rattle.page.specs.Outcomes.{Outcome, accepted, refused}
@@ -14,9 +14,9 @@ use Rattle.page.specs.Validation.{validated}
 use Rattle.digits.specs.Texts.{text}
 use Rattle.digits.specs.Digits.{digits}
 
--- kinds 1 to 5 are spaces; 0 is a free block, 6 a palette's and 7 a program's
+-- kinds 1 to 5 and 8 are spaces; 0 is a free block, 6 a palette's and 7 a program's
 unfoldable pub isSpace : ℕ → Bool
-isSpace kind = leb 1 kind && leb kind 5
+isSpace kind = spaceKind kind
 
 -- the family of a space, by its kind
 unfoldable pub familyOf : ℕ → List ℕ
@@ -25,7 +25,8 @@ familyOf kind =
     (cond (eqb kind 2) (text "CalRGB")
     (cond (eqb kind 3) (text "Lab")
     (cond (eqb kind 4) (text "Indexed")
-    (text "Separation"))))
+    (cond (eqb kind 8) (text "DeviceN")
+    (text "Separation")))))
 
 -- the line of block i, of this kind and with this space: number, family, components and recipe words
 unfoldable pub lineOf : ℕ → ℕ → Space → List ℕ

@@ -22,7 +22,7 @@ use tables::words;
 fn is_space(k: u32) -> bool
     ensures { λ r. ⌜ r ≡ isSpace k ⌝ }
 {
-    (1 <= k) & (k <= 5)
+    ((1 <= k) & (k <= 5)) | (k == 8)
 }
 
 // Puts the family of a space, by its kind, and a space after it.
@@ -35,6 +35,7 @@ fn put_family(out: &mut [u8], at: usize, k: u32) -> usize
         2 => put_text(out, at, b"CalRGB "),
         3 => put_text(out, at, b"Lab "),
         4 => put_text(out, at, b"Indexed "),
+        8 => put_text(out, at, b"DeviceN "),
         _ => put_text(out, at, b"Separation "),
     }
 }

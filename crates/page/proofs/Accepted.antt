@@ -14,8 +14,8 @@ use Rattle.fixed.specs.Loops.{firstFrom}
 use Rattle.fixed.proofs.Decide.{cond-ind, passed, and-left, and-right}
 use Rattle.fixed.proofs.Scans.{first-none, first-all}
 use Rattle.record.specs.Layout.{checked}
-use Rattle.record.specs.Reading.{kindAt, ownAt, bodyBy, bodyAt}
-use Rattle.record.specs.Rules.{wellLaid, wellFormed, lawful, supported}
+use Rattle.record.specs.Reading.{kindAt, ownAt, bodyBy, bodyAt, namesAt}
+use Rattle.record.specs.Rules.{wellLaid, wellFormed, lawful, lawfulIn, supported}
 use Rattle.record.specs.declared.types.Body.{Body}
 use Rattle.record.specs.declared.types.Body.the-variants.{Free}
 use Rattle.page.specs.Outcomes.{Outcome, accepted, refused, andThen}
@@ -96,12 +96,12 @@ module _ (page : List ℕ) (ok : validated page ≡ accepted) where
     pub below-most : i < blocks
     below-most = omega (arith, sized-most _ well-sized)
 
-    two : (lawful (bodyAt (blockAt page i)) ≡ true) × (supported (bodyAt (blockAt page i)) ≡ true)
+    two : (lawfulIn (namesAt (blockAt page i)) (bodyAt (blockAt page i)) ≡ true) × (supported (bodyAt (blockAt page i)) ≡ true)
         × (permitted page (bodyAt (blockAt page i)) ≡ true) × (programFault page i (bodyAt (blockAt page i)) ≡ 0)
         × (wellFilled page i (claimedAt page i) (bodyAt (blockAt page i)) ≡ true)
     unfolding faultTwo faultClaimed
     two =
-        let a = passed (lawful (bodyAt (blockAt page i))) _ 4 (λ e. omega arith) (none-two i l) in
+        let a = passed (lawfulIn (namesAt (blockAt page i)) (bodyAt (blockAt page i))) _ 4 (λ e. omega arith) (none-two i l) in
         let b = passed (supported (bodyAt (blockAt page i))) _ 5 (λ e. omega arith) (a .1) in
         let c = passed (permitted page (bodyAt (blockAt page i))) _ 6 (λ e. omega arith) (b .1) in
         let p = none-else (programFault page i (bodyAt (blockAt page i))) _ (c .1) in
@@ -109,8 +109,12 @@ module _ (page : List ℕ) (ok : validated page ≡ accepted) where
         (a .0, b .0, c .0, p .0, d .0)
 
     -- 4 to 7, 16 and 17 are not due: its numbers are lawful and supported, its reference permitted, its program in order, and what it holds
+    pub lawful-in-at : lawfulIn (namesAt (blockAt page i)) (bodyAt (blockAt page i)) ≡ true
+    lawful-in-at = two .0
+
     pub lawful-at : lawful (bodyAt (blockAt page i)) ≡ true
-    lawful-at = two .0
+    unfolding lawfulIn
+    lawful-at = and-left (lawful (bodyAt (blockAt page i))) _ (two .0)
 
     pub supported-at : supported (bodyAt (blockAt page i)) ≡ true
     supported-at = two .1
@@ -131,12 +135,12 @@ module _ (page : List ℕ) (ok : validated page ≡ accepted) where
       getD-drop (512 * n) page 0 0 ∙ List·getD-eq-default page 0 o
 
   -- byte 0 of each block is a known kind, and 0 past the page
-  pub kind-known : (n : ℕ) → byteAt (blockAt page n) 0 ≤ 7
+  pub kind-known : (n : ℕ) → byteAt (blockAt page n) 0 ≤ 8
   unfolding wellFormed wellLaid
   kind-known n = within (decLt n (length page / 512))
     where
-      within : Dec (n < length page / 512) → byteAt (blockAt page n) 0 ≤ 7
-      within (yes w) = leb-true _ 7 (and-left _ _ (and-left (wellLaid (blockAt page n)) _ (formed-at n w)))
+      within : Dec (n < length page / 512) → byteAt (blockAt page n) 0 ≤ 8
+      within (yes w) = leb-true _ 8 (and-left _ _ (and-left (wellLaid (blockAt page n)) _ (formed-at n w)))
       within (no w) = omega (arith, past n (omega arith))
 
   -- 4 to 6, 16 and 17 are due of no block, nor of one that the page does not have, which is free

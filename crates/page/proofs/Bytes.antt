@@ -8,9 +8,9 @@ use lib.ListN.{take}
 use lib.Seq.{getD-take}
 use Rattle.fixed.specs.Bytes.{blockAt, byteAt}
 use Rattle.record.specs.Layout.{checked}
-use Rattle.record.specs.Reading.{ownAt, bodyAt}
+use Rattle.record.specs.Reading.{ownAt, bodyAt, namesAt}
 use Rattle.record.specs.Rules.{wellFormed}
-use Rattle.record.proofs.Same.{checked-same, own-same, body-same, formed-same}
+use Rattle.record.proofs.Same.{checked-same, own-same, body-same, formed-same, names-same}
 use Rattle.page.specs.Validation.{faultOne}
 
 -- the 512 bytes of block i of a page
@@ -33,6 +33,9 @@ module _ (page : List ℕ) (i : ℕ) where
 
   pub body-within : bodyAt (blockAt page i) ≡ bodyAt (ownBytes page i)
   body-within = body-same (blockAt page i) (ownBytes page i) byte-within
+
+  pub names-within : namesAt (blockAt page i) ≡ namesAt (ownBytes page i)
+  names-within = names-same (blockAt page i) (ownBytes page i) byte-within
 
   -- what the first pass finds in a block is seen in its own bytes
   pub fault-within : faultOne page i ≡ cond (checked (ownBytes page i)) (cond (wellFormed (ownBytes page i) && eqb (ownAt (ownBytes page i)) i) 0 3) 2

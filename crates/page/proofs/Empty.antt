@@ -10,7 +10,7 @@ use Rattle.fixed.specs.Loops.{total, allFrom, zeroBetween, firstFrom}
 use Rattle.fixed.proofs.Listed.{zeros-at}
 use Rattle.record.specs.Layout.{plain, weighed, checked}
 use Rattle.record.specs.Reading.{bodyBy, bodyAt}
-use Rattle.record.specs.Rules.{wellLaid, nameShown, wellFormed, lawful, supported}
+use Rattle.record.specs.Rules.{wellLaid, nameShown, wellFormed, lawful, lawfulIn, namesLawful, supported}
 use Rattle.record.specs.declared.types.Body.the-variants.{Free}
 use Rattle.space.specs.Spaces.{countOf, none}
 use Rattle.space.specs.Pages.{plainOf, tintedOf, spaceOf, spaceAt}
@@ -23,7 +23,7 @@ zeroPage = replicate 512 0
 
 -- by computing
 pub zero-accepted : validated zeroPage ≡ accepted
-unfolding validated wellSized faultOne faultTwo faultClaimed claimedAt permitted programFault wellFilled checked plain weighed bodyBy wellLaid nameShown wellFormed lawful supported total allFrom zeroBetween firstFrom
+unfolding validated wellSized faultOne faultTwo faultClaimed claimedAt permitted programFault wellFilled checked plain weighed bodyBy wellLaid nameShown wellFormed lawful lawfulIn namesLawful supported total allFrom zeroBetween firstFrom
 zero-accepted = refl
 
 -- every block is free

@@ -1,5 +1,5 @@
 -- On an accepted page the space at every number, if it has components, is well made.
-use mathlib.Core.Path.{_≡_}
+use mathlib.Core.Path.{_≡_, refl}
 use mathlib.Core.Bool.{true, false, _||_}
 use mathlib.Core.List.{List}
 use Prim.Native.Nat.{ℕ, _≤_, _<_}
@@ -12,22 +12,22 @@ use Rattle.fixed.specs.Bytes.{blockAt}
 use Rattle.fixed.specs.Numbers.{gammaSupported, exponentSupported}
 use Rattle.fixed.proofs.Decide.{cond-ind, passed, and-left, and-right}
 use Rattle.fixed.proofs.Signs.{not-above}
-use Rattle.record.specs.Reading.{bodyAt, theNone, theAll, nameIs}
+use Rattle.record.specs.Reading.{bodyAt, namesAt, theNone, theAll, inkIs, allNone}
 use Rattle.record.specs.Rules.{whitePoint, blackPoint, ordered, lawful, supported}
-use Rattle.record.specs.declared.types.Separation.{Separation as Ink}
 use Rattle.record.specs.declared.types.Body.{Body}
-use Rattle.record.specs.declared.types.Body.the-variants.{Free, CalGray, CalRgb, Lab, Indexed, Separation, Palette, Program}
+use Rattle.record.specs.declared.types.Body.the-variants.{Free, CalGray, CalRgb, Lab, Indexed, Separation, Palette, Program, DeviceN}
 use Rattle.stack.specs.Flat.{flat}
-use Rattle.form.specs.Steps.{fitting}
-use Rattle.calculator.specs.Calculator.{mostFlat, programRun, runText, codeAfter, filledRun}
+use Rattle.form.specs.Steps.{takenBy, fitting}
+use Rattle.fixed.specs.Sizes.{mostFlat}
+use Rattle.calculator.specs.Calculator.{programRun, runText, codeAfter, filledRun}
 use Rattle.calculator.proofs.Runs.{code-fits, code-few}
 use Rattle.space.specs.Spaces.{Space, countOf}
-use Rattle.space.specs.Pages.{numbered, plainOf, plainAt, inkOf, tintedOf, tintedAt, spaceOf, spaceAt}
+use Rattle.space.specs.Pages.{numbered, plainOf, plainAt, inkOf, deviceNOf, tintedOf, tintedAt, spaceOf, spaceAt}
 use Rattle.space.specs.WellMade.{WellMade, rankOf}
-use Rattle.space.proofs.Levels.{numbered-ind}
+use Rattle.space.proofs.Levels.{numbered-ind, plain-wide}
 use Rattle.space.proofs.Counts.{table-length, c0-length, c1-length}
 use Rattle.page.specs.Outcomes.{accepted}
-use Rattle.runs.specs.Runs.{permitted, within, runFault, programFault}
+use Rattle.runs.specs.Runs.{permitted, within, programmed, tintsOf, runFault, programFault}
 use Rattle.page.specs.Validation.{validated}
 use Rattle.page.proofs.Accepted.{Fair, fair-at}
 use Rattle.runs.proofs.Within.{alternate-some, base-some}
@@ -64,23 +64,25 @@ plain-sound page n (Indexed base hival) w h = absurd (omega arith)
 plain-sound page n (Separation p) w h = absurd (omega arith)
 plain-sound page n Palette w h = absurd (omega arith)
 plain-sound page n Program w h = absurd (omega arith)
+plain-sound page n (DeviceN alternate count) w h = absurd (omega arith)
 
 module _ (page : List ℕ) (fair : (n : ℕ) → Fair page n (bodyAt (blockAt page n))) where
   plain-at : (n : ℕ) → Sound 1 (plainAt page n)
   plain-at n = sound-at 1 (omega arith) page plainOf n (plain-sound page n _ (fair n))
 
-  -- 16 and 17: a program leaves as many numbers as the alternate has components
-  program-sound : (n : ℕ) (p : Ink) → eqb (p .exponent) 0 ≡ true → programFault page n (Separation p) ≡ 0 → (fitting (countOf (plainAt page (p .alternate))) (codeAfter page n) ≡ true) × (length (flat (codeAfter page n)) ≤ mostFlat)
-  unfolding programFault runFault within codeAfter
-  program-sound n p e h =
-      let m = countOf (plainAt page (p .alternate)) in
-      let f : runFault page n m ≡ 0 = rw e at h in
+  -- 16 and 17: a program takes the tints of its space, and leaves as many numbers as the alternate has components
+  program-sound : (n : ℕ) (y : Body) → programmed y ≡ true → programFault page n y ≡ 0 → (fitting (takenBy (tintsOf y)) (within page y) (codeAfter page n) ≡ true) × (length (flat (codeAfter page n)) ≤ mostFlat)
+  unfolding programFault runFault codeAfter
+  program-sound n y e h =
+      let t = takenBy (tintsOf y) in
+      let m = within page y in
+      let f : runFault page n t m ≡ 0 = rw e at h in
       let r = passed (filledRun (programRun page n) (runText page n (programRun page n))) _ 7 (λ z. omega arith) f in
-      (code-fits m (runText page n (programRun page n)) (r .1), code-few (runText page n (programRun page n)))
+      (code-fits t m (runText page n (programRun page n)) (r .1), code-few (runText page n (programRun page n)))
 
   -- 5: each exponent is within the house limit; 6: the alternate is of a kind permitted, and has components
   tinted-sound : (n : ℕ) (y : Body) → Fair page n y → Sound 2 (tintedOf page n y)
-  unfolding supported permitted inkOf tintedOf WellMade
+  unfolding supported permitted within inkOf deviceNOf tintedOf WellMade
   tinted-sound n Free w h = let p = plain-sound page n Free w h in (p .0, omega (arith, p .1))
   tinted-sound n (CalGray g) w h = let p = plain-sound page n (CalGray g) w h in (p .0, omega (arith, p .1))
   tinted-sound n (CalRgb g) w h = let p = plain-sound page n (CalRgb g) w h in (p .0, omega (arith, p .1))
@@ -89,13 +91,17 @@ module _ (page : List ℕ) (fair : (n : ℕ) → Fair page n (bodyAt (blockAt pa
   tinted-sound n (Separation p) w h =
       let s = plainAt page (p .alternate) in
       let i = plain-at (p .alternate) (alternate-some page (p .alternate) (w .permitted-is)) in
-      cond-ind (λ (t : Space). WellMade t × (rankOf t < 2)) (nameIs (blockAt page n) theNone) (λ _. (tt, omega arith)) (λ _.
-      cond-ind (λ (t : Space). WellMade t × (rankOf t < 2)) (nameIs (blockAt page n) theAll) (λ _. (tt, omega arith)) (λ _.
+      cond-ind (λ (t : Space). WellMade t × (rankOf t < 2)) (inkIs (blockAt page n) theNone) (λ _. (tt, omega arith)) (λ _.
+      cond-ind (λ (t : Space). WellMade t × (rankOf t < 2)) (inkIs (blockAt page n) theAll) (λ _. (tt, omega arith)) (λ _.
       cond-ind (λ (t : Space). WellMade t × (rankOf t < 2)) (eqb (p .exponent) 0)
-      (λ e. let k = program-sound n p e (w .program-is) in ((k .0, k .1, i .1, i .0), omega arith))
-      (λ e. ((other-supported (p .exponent) e (w .supported-is), c0-length p s, c1-length p s, i .1, i .0), omega arith))))
+      (λ e. let k = program-sound n (Separation p) e (w .program-is) in ((k .0, k .1, i .1, i .0), omega arith))
+      (λ e. ((other-supported (p .exponent) e (w .supported-is), plain-wide page (p .alternate), c0-length p s (plain-wide page (p .alternate)), c1-length p s (plain-wide page (p .alternate)), i .1, i .0), omega arith))))
   tinted-sound n Palette w h = let p = plain-sound page n Palette w h in (p .0, omega (arith, p .1))
   tinted-sound n Program w h = let p = plain-sound page n Program w h in (p .0, omega (arith, p .1))
+  tinted-sound n (DeviceN alternate count) w h =
+      let i = plain-at alternate (alternate-some page alternate (w .permitted-is)) in
+      cond-ind (λ (t : Space). WellMade t × (rankOf t < 2)) (allNone (namesAt (blockAt page n)) count) (λ _. (tt, omega arith))
+      (λ _. let k = program-sound n (DeviceN alternate count) refl (w .program-is) in ((k .0, k .1, i .1, i .0), omega arith))
 
   tinted-at : (n : ℕ) → Sound 2 (tintedAt page n)
   tinted-at n = sound-at 2 (omega arith) page (tintedOf page n) n (tinted-sound n _ (fair n))
@@ -113,6 +119,7 @@ module _ (page : List ℕ) (fair : (n : ℕ) → Fair page n (bodyAt (blockAt pa
   space-sound n (Separation p) w h = let q = tinted-sound n (Separation p) w h in (q .0, omega (arith, q .1))
   space-sound n Palette w h = let p = tinted-sound n Palette w h in (p .0, omega (arith, p .1))
   space-sound n Program w h = let p = tinted-sound n Program w h in (p .0, omega (arith, p .1))
+  space-sound n (DeviceN alternate count) w h = let q = tinted-sound n (DeviceN alternate count) w h in (q .0, omega (arith, q .1))
 
 -- every number, device codes among them, whose space has components: so all but those that are refused with 8
 pub well-made-at : (page : List ℕ) (n : ℕ) → validated page ≡ accepted → 1 ≤ countOf (spaceAt page n) → WellMade (spaceAt page n)

@@ -8,8 +8,8 @@ use lib.ListN.{length}
 use Rattle.fixed.specs.Bytes.{blocks, blockAt}
 use Rattle.fixed.specs.Loops.{unless, firstFrom}
 use Rattle.record.specs.Layout.{checked}
-use Rattle.record.specs.Reading.{ownAt, bodyAt}
-use Rattle.record.specs.Rules.{wellFormed, lawful, supported}
+use Rattle.record.specs.Reading.{ownAt, bodyAt, namesAt}
+use Rattle.record.specs.Rules.{wellFormed, lawfulIn, supported}
 use Rattle.record.specs.declared.types.Body.{Body}
 use Rattle.runs.specs.Runs.{permitted, programFault, claimedAt, wellFilled}
 use Rattle.page.specs.Outcomes.{Outcome, accepted, refused, andThen}
@@ -34,7 +34,7 @@ orElse number after = cond (eqb number 0) after number
 -- the second pass on block i, whose body is y, with so many blocks still claimed
 unfoldable pub faultClaimed : List ℕ → ℕ → ℕ → Body → ℕ
 faultClaimed page i claimed y =
-    unless (lawful y) 4
+    unless (lawfulIn (namesAt (blockAt page i)) y) 4
     (unless (supported y) 5
     (unless (permitted page y) 6
     (orElse (programFault page i y)

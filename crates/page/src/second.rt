@@ -10,7 +10,7 @@ ghost use Rattle.page.specs.Validation.{faultClaimed, faultTwo};
 use crate::Verdict;
 use record::Body;
 use record::body_at;
-use rules::is_lawful;
+use rules::is_lawful_at;
 use rules::is_supported;
 use runs::claimed_after;
 use runs::count_within;
@@ -23,7 +23,7 @@ fn fault_claimed(page: &[u8], i: u32, claimed: u32, y: Body, m: u32) -> u32
     requires { ⌜ (i < blocks) × (m ≤ places) × (m ≡ within (now page) y) ⌝ }
     ensures { λ r. ⌜ r ≡ faultClaimed (now (page .entry)) i claimed y ⌝ }
 {
-    let lawful = is_lawful(y);
+    let lawful = is_lawful_at(page, i, y);
     let supported = is_supported(y);
     let permitted = permits(y, m);
     let filled = is_well_filled(page, i, claimed, y, m);

@@ -12,7 +12,7 @@ use Rattle.fixed.specs.Values.{listed, limitedAt, limitStep}
 use Rattle.layout.specs.Field.{padded}
 use Rattle.record.specs.Layout.{headOf, plain, weighed, checked, blockOf}
 use Rattle.record.specs.Reading.{bodyBy}
-use Rattle.record.specs.Rules.{wellLaid, nameShown, wellFormed, lawful, supported, whitePoint, blackPoint}
+use Rattle.record.specs.Rules.{wellLaid, nameShown, wellFormed, lawful, supported, whitePoint, blackPoint, lawfulIn, namesLawful}
 use Rattle.cie.specs.declared.GrayClosing.{GrayClosing}
 use Rattle.cie.specs.declared.Xyz.{Xyz}
 use Rattle.cie.specs.Answers.{answer, inXyz}
@@ -34,7 +34,7 @@ k = record { xw = pos 950500; zw = pos 1089000; gamma = pos 1000000 }
 
 -- by computing
 gray-accepted : validated (blockOf gray0) ≡ accepted
-unfolding blockOf headOf twoBytes fourBytes padded validated wellSized faultOne faultTwo faultClaimed claimedAt permitted programFault wellFilled checked plain weighed bodyBy wellLaid nameShown wellFormed lawful supported whitePoint blackPoint gammaSupported numberAt total allFrom zeroBetween firstFrom
+unfolding blockOf headOf twoBytes fourBytes padded validated wellSized faultOne faultTwo faultClaimed claimedAt permitted programFault wellFilled checked plain weighed bodyBy wellLaid nameShown wellFormed lawful lawfulIn namesLawful supported whitePoint blackPoint gammaSupported numberAt total allFrom zeroBetween firstFrom
 gray-accepted = refl
 
 gray-space : spaceAt (blockOf gray0) 0 ≡ calGray k

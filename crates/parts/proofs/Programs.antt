@@ -1,16 +1,19 @@
 -- The words of a program's step: stored behind its head first, and then the head.
-use mathlib.Core.Path.{_≡_, refl, ap, _∙_}
-use mathlib.Core.List.{List, [], _∷_, _++_}
+use mathlib.Core.Path.{_≡_, refl, sym, ap, _∙_}
+use mathlib.Core.List.{List, [], _∷_, _++_, append-assoc}
 use Prim.Native.Nat.{ℕ, suc, _+_, _≤_, _<_}
 use native.Mathlib.Nat.{add-zero}
 use native.Mathlib.Omega.{arith}
 use borrow.Author.Tests.{le-leb}
 use lib.IntN.{ℤ, pos}
-use lib.ListN.{length, set}
+use lib.ListN.{length, set, length-append}
 use lib.Seq.{sets, set-comm}
 use Rattle.stack.specs.Flat.{flat}
 use Rattle.program.specs.Texts.{readOf}
-use Rattle.calculator.specs.Calculator.{wordsBy, mostFlat, putAt, programRun, runText, codeAfter}
+use Rattle.form.specs.Steps.{headWords}
+use Rattle.form.specs.declared.Tints.{Tints}
+use Rattle.fixed.specs.Sizes.{mostFlat}
+use Rattle.calculator.specs.Calculator.{wordsBy, putAt, programRun, runText, codeAfter}
 use Rattle.calculator.proofs.Runs.{words-code, code-few}
 use Rattle.parts.specs.Parts.{programWords}
 
@@ -43,18 +46,21 @@ module _ (page : List ℕ) (n : ℕ) {run size : ℕ} (er : run ≡ programRun p
   unfolding codeAfter
   size-few = omega (arith, size-is, code-few (runText page n (programRun page n)))
 
-  pub program-length : (m : ℕ) → length (programWords (codeAfter page n) m) ≡ 3 + size
+  pub program-length : (i : Tints) (m : ℕ) → length (programWords i (codeAfter page n) m) ≡ length (headWords i) + 2 + size
   unfolding programWords
-  program-length m = omega (arith, size-is)
+  program-length i m = length-append (headWords i) (pos m ∷ pos (length (flat (codeAfter page n))) ∷ flat (codeAfter page n)) ∙ omega (arith, size-is)
 
-  pub program-set : (m at : ℕ) (d : List ℤ) {y z : List ℤ} {w₁ w₂ : ℤ} → at + length (programWords (codeAfter page n) m) ≤ length d
-      → y ≡ putAt d (at + 3) (wordsBy (readOf (runText page n run))) → w₁ ≡ pos m → w₂ ≡ pos size → z ≡ sets y at (pos 12 ∷ w₁ ∷ w₂ ∷ [])
-      → (z ≡ sets d at (programWords (codeAfter page n) m)) × (at + 3 + size ≡ at + length (programWords (codeAfter page n) m))
+  pub program-set : (i : Tints) (m at h : ℕ) (d : List ℤ) {y z : List ℤ} {w₁ w₂ : ℤ} → h ≡ length (headWords i) + 2 → at + length (programWords i (codeAfter page n) m) ≤ length d
+      → y ≡ putAt d (at + h) (wordsBy (readOf (runText page n run))) → w₁ ≡ pos m → w₂ ≡ pos size → z ≡ sets y at (headWords i ++ (w₁ ∷ w₂ ∷ []))
+      → (z ≡ sets d at (programWords i (codeAfter page n) m)) × (at + h + size ≡ at + length (programWords i (codeAfter page n) m))
   unfolding putAt programWords
-  program-set m at d room ey e₁ e₂ ez =
+  program-set i m at h d eh room ey e₁ e₂ ez =
       let ws = flat (codeAfter page n) in
-      let fits = le-leb (at + 3 + length ws) (length d) (omega (arith, program-length m, size-is)) in
-      let fitting : putAt d (at + 3) ws ≡ sets d (at + 3) ws = rw fits in
-      let stood = ey ∙ (ap (λ (l : List ℤ). putAt d (at + 3) l) words-are ∙ fitting) in
-      let head = ez ∙ (λ i. sets (stood i) at (pos 12 ∷ e₁ i ∷ (e₂ ∙ ap pos size-is) i ∷ [])) in
-      (head ∙ sets-before (pos 12 ∷ pos m ∷ pos (length ws) ∷ []) ws d at, omega (arith, program-length m))
+      let hd = headWords i ++ (pos m ∷ pos (length ws) ∷ []) in
+      let lh : length hd ≡ h = length-append (headWords i) (pos m ∷ pos (length ws) ∷ []) ∙ omega (arith, eh) in
+      let whole = program-length i m in
+      let fits = le-leb (at + h + length ws) (length d) (omega (arith, whole, size-is, eh)) in
+      let fitting : putAt d (at + h) ws ≡ sets d (at + h) ws = rw fits in
+      let stood = ey ∙ (ap (λ (l : List ℤ). putAt d (at + h) l) words-are ∙ (fitting ∙ ap (λ (k : ℕ). sets d (at + k) ws) (sym lh))) in
+      let head = ez ∙ (λ j. sets (stood j) at (headWords i ++ (e₁ j ∷ (e₂ ∙ ap pos size-is) j ∷ []))) in
+      (head ∙ (sets-before hd ws d at ∙ ap (λ (l : List ℤ). sets d at l) (append-assoc (headWords i) (pos m ∷ pos (length ws) ∷ []) ws)), omega (arith, whole, eh))

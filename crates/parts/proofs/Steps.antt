@@ -17,8 +17,11 @@ use Rattle.space.specs.Spaces.{Space, countOf, closingOf}
 use Rattle.space.specs.Pages.{plainAt, tintedAt}
 use Rattle.space.specs.Levels.{plainIn, spaceIn}
 use Rattle.space.specs.declared.nesting.Level.{Level}
-use Rattle.space.specs.declared.nesting.Level.the-variants.{Plain, Separation, Program, Indexed}
-use Rattle.parts.specs.Recipes.{endsOf, stepsOf}
+use Rattle.space.specs.declared.nesting.Level.the-variants.{Plain, Blank, Separation, Program, Indexed}
+use Rattle.form.specs.declared.Tints.{Tints}
+use Rattle.space.proofs.Levels.{plain-wide}
+use Rattle.fixed.specs.Values.{widest}
+use Rattle.parts.specs.Recipes.{endsOf, stepsOf, limitsOf, closingWords}
 use Rattle.parts.specs.Parts.{rowWords, tintWords, programWords}
 
 -- the closing step of a plain space is the one that it was made of
@@ -51,20 +54,28 @@ module _ (page : List ℕ) {l : Level} where
   unfolding spaceIn
   steps-plain c q e = ap (λ (k : Level). stepsOf (spaceIn page k)) e ∙ ends-are c q
 
+  pub steps-blank : (i : Tints) → l ≡ Blank i → stepsOf (spaceIn page l) ≡ closingWords NoMark
+  unfolding spaceIn stepsOf limitsOf
+  steps-blank i e = ap (λ (k : Level). stepsOf (spaceIn page k)) e
+
   pub steps-separation : (p : Ink) {s : Space} {m : ℕ} → l ≡ Separation p → s ≡ plainAt page (p .alternate) → m ≡ countOf s → stepsOf (spaceIn page l) ≡ tintWords p m ++ stepsOf s
   unfolding spaceIn stepsOf tintWords
   steps-separation p {s} {m} e es em =
       ap (λ (k : Level). stepsOf (spaceIn page k)) e ∙ (λ i. tintWords p (sym (em ∙ ap countOf es) i) ++ stepsOf (sym es i))
 
-  pub steps-calculated : (n alternate : ℕ) {s : Space} {m : ℕ} → l ≡ Program n alternate → s ≡ plainAt page alternate → m ≡ countOf s → stepsOf (spaceIn page l) ≡ programWords (codeAfter page n) m ++ stepsOf s
+  pub steps-calculated : (n alternate : ℕ) (tints : Tints) {s : Space} {m : ℕ} → l ≡ Program n alternate tints → s ≡ plainAt page alternate → m ≡ countOf s → stepsOf (spaceIn page l) ≡ programWords tints (codeAfter page n) m ++ stepsOf s
   unfolding spaceIn stepsOf programWords
-  steps-calculated n alternate {s} {m} e es em =
-      ap (λ (k : Level). stepsOf (spaceIn page k)) e ∙ (λ i. programWords (codeAfter page n) (sym (em ∙ ap countOf es) i) ++ stepsOf (sym es i))
+  steps-calculated n alternate tints {s} {m} e es em =
+      ap (λ (k : Level). stepsOf (spaceIn page k)) e ∙ (λ i. programWords tints (codeAfter page n) (sym (em ∙ ap countOf es) i) ++ stepsOf (sym es i))
 
   pub steps-indexed : (n base hival : ℕ) {s : Space} → l ≡ Indexed n base hival → s ≡ tintedAt page base → stepsOf (spaceIn page l) ≡ rowWords page n hival s ++ stepsOf s
   unfolding spaceIn stepsOf rowWords
   steps-indexed n base hival e es =
       ap (λ (k : Level). stepsOf (spaceIn page k)) e ∙ (λ i. rowWords page n hival (sym es i) ++ stepsOf (sym es i))
+
+-- a plain space within has no more components than CMYK
+pub wide-count : (page : List ℕ) (n : ℕ) {s : Space} {m : ℕ} → m ≡ countOf s → s ≡ plainAt page n → m ≤ widest
+wide-count page n em es = omega (arith, em ∙ ap countOf es, plain-wide page n)
 
 pub plain-room : (at : ℕ) (d : List ℤ) {all ends : List ℤ} → all ≡ ends → at + length all ≤ length d → at + length ends ≤ length d
 plain-room at d e room = rw e at room

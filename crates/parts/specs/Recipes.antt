@@ -5,6 +5,7 @@ use mathlib.Core.List.{List, [], _∷_, _++_}
 use lib.IntN.{ℤ, pos}
 use lib.ListN.{length}
 use Rattle.stack.specs.Flat.{flat}
+use Rattle.form.specs.Steps.{headWords}
 use Rattle.cie.specs.declared.Closing.{Closing}
 use Rattle.cie.specs.declared.Closing.the-variants.{Nothing, Gray, Rgb, Cmyk, CalGray, CalRgb, Lab, NoMark, EveryInk}
 use Rattle.space.specs.Spaces.{Space, none, gray, rgb, cmyk, calGray, calRgb, lab, noMark, everyInk, separation, calculated, indexed, countOf, limitCount, lowOf, highOf, closingOf}
@@ -35,7 +36,7 @@ closingWords EveryInk = pos 11 ∷ []
 abbrev pub endsOf : Space → List ℤ
 endsOf s = limitsOf s (limitCount s) ++ closingWords (closingOf s)
 
--- 2 m h and the entries; 3 e m, m C0s, m C1s; 12 m n and the n words of a program's flat form
+-- 2 m h and the entries; 3 e m, m C0s, m C1s; 12 m n, or 13 t m n, and the n words of a program's flat form
 unfoldable pub stepsOf : Space → List ℤ
 stepsOf none = endsOf none
 stepsOf gray = endsOf gray
@@ -44,10 +45,10 @@ stepsOf cmyk = endsOf cmyk
 stepsOf (calGray k) = endsOf (calGray k)
 stepsOf (calRgb k) = endsOf (calRgb k)
 stepsOf (lab k al ah bl bh) = endsOf (lab k al ah bl bh)
-stepsOf noMark = endsOf noMark
+stepsOf (noMark i) = endsOf (noMark i)
 stepsOf everyInk = endsOf everyInk
 stepsOf (separation e c0 c1 s) = (pos 3 ∷ pos e ∷ pos (countOf s) ∷ (c0 ++ c1)) ++ stepsOf s
-stepsOf (calculated c s) = (pos 12 ∷ pos (countOf s) ∷ pos (length (flat c)) ∷ flat c) ++ stepsOf s
+stepsOf (calculated i c s) = (headWords i ++ (pos (countOf s) ∷ pos (length (flat c)) ∷ flat c)) ++ stepsOf s
 stepsOf (indexed h t s) = (pos 2 ∷ pos (countOf s) ∷ pos h ∷ t) ++ stepsOf s
 
 -- the whole recipe

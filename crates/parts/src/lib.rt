@@ -3,6 +3,7 @@ mod closings;
 mod parts;
 mod stores;
 
+pub use closings::put_closing;
 pub use parts::put_ends;
 pub use parts::put_program;
 pub use parts::put_row;

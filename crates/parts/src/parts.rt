@@ -1,10 +1,12 @@
 // The parts of a recipe: the limits and the closing step of a plain space, step 2 of an Indexed, step 3 of a Separation or step 12 of its program.
 ghost use mathlib.Core.Path.{_≡_};
 ghost use Prim.Native.Nat.{_+_, _*_, _<_, _≤_};
+ghost use mathlib.Core.List.{[], _∷_, _++_};
 ghost use lib.ListN.{length};
+ghost use Rattle.form.specs.Steps.{headWords};
 ghost use lib.Seq.{sets};
 ghost use Rattle.fixed.specs.Numbers.{OverOne};
-ghost use Rattle.fixed.specs.Values.{places, value, listed};
+ghost use Rattle.fixed.specs.Values.{places, widest, value, listed};
 ghost use Rattle.space.specs.Spaces.{Space};
 ghost use Rattle.space.specs.Pages.{entries, entryOf};
 ghost use Rattle.space.specs.Levels.{plainIn, spaceIn, Ends, Ranged};
@@ -20,6 +22,8 @@ use calculator::put_run;
 use cie::Closing;
 use fixed::VALUES;
 use fixed::over_one;
+use form::Tints;
+use form::nearest_count;
 use record::Ranges;
 use record::Separation;
 use record::entries_of;
@@ -31,6 +35,7 @@ use space::lows;
 use space::plain_highs;
 use space::plain_lows;
 use tables::entry;
+use tables::head_size;
 
 // The first `size` entries of the table of the Indexed block n, over a space of m components, whose ranges are from lo to hi; `table` has the values over 0..1.
 fn put_table(
@@ -85,7 +90,7 @@ fn put_rows(
 
 // The first m entries of C0 or C1.
 fn put_entries(a: [i32; 4], m: u32, words: &mut [i32], at: usize)
-    requires { ⌜ (m ≤ places) × (at + m ≤ length (now words)) ⌝ }
+    requires { ⌜ (m ≤ widest) × (at + m ≤ length (now words)) ⌝ }
     ensures { λ _. ⌜ now (words .exit) ≡ sets (now (words .entry)) at (listed (value a) m) ⌝ }
 {
     let mut j: usize = 0;
@@ -139,7 +144,7 @@ pub fn put_row(page: &[u8], n: u16, hival: u16, s: Level, words: &mut [i32], at:
 
 // Step 3 of a Separation over an alternate of m components, from `at` on; the place after it.
 pub fn put_tint(p: Separation, m: u32, words: &mut [i32], at: usize) -> usize
-    requires { ⌜ (m ≤ places) × (at + length (tintWords p m) ≤ length (now words)) ⌝ }
+    requires { ⌜ (m ≤ widest) × (at + length (tintWords p m) ≤ length (now words)) ⌝ }
     ensures stores { λ _. ⌜ now (words .exit) ≡ sets (now (words .entry)) at (tintWords p m) ⌝ }
     ensures next { λ r. ⌜ r ≡ at + length (tintWords p m) ⌝ }
 {
@@ -152,13 +157,30 @@ pub fn put_tint(p: Separation, m: u32, words: &mut [i32], at: usize) -> usize
     at + 3 + 2 * (m as usize)
 }
 
-// Step 12 of the Separation in block n, with the program after it, over an alternate of m components, from `at` on; the place after it.
-pub fn put_program(page: &[u8], n: u16, m: u32, words: &mut [i32], at: usize) -> usize
-    requires { ⌜ (m ≤ places) × (at + length (programWords (codeAfter (now page) n) m) ≤ length (now words)) ⌝ }
-    ensures stores { λ _. ⌜ now (words .exit) ≡ sets (now (words .entry)) at (programWords (codeAfter (now (page .entry)) n) m) ⌝ }
-    ensures next { λ r. ⌜ r ≡ at + length (programWords (codeAfter (now (page .entry)) n) m) ⌝ }
+// The words before a program's flat form: 12, or 13 and how many values it takes, then how many numbers it leaves, and how many words follow.
+fn put_head(tints: Tints, m: i32, size: i32, words: &mut [i32], at: usize)
+    requires { ⌜ at + (length (headWords tints) + 2) ≤ length (now words) ⌝ }
+    ensures { λ _. ⌜ now (words .exit) ≡ sets (now (words .entry)) at (headWords tints ++ (m ∷ size ∷ [])) ⌝ }
 {
-    let size = put_run(page, n, program_run(page, n), words, at + 3);
-    put3(words, at, 12, word_of(m), word_of(size as u32));
-    at + 3 + size
+    match tints {
+        Tints::One => {
+            put3(words, at, 12, m, size);
+        }
+        Tints::Inks(n) => {
+            let t = word_of(nearest_count(n));
+            put4(words, at, 13, t, m, size);
+        }
+    }
+}
+
+// Step 12 of the Separation in block n, or step 13 of the DeviceN, with the program after it, over an alternate of m components, from `at` on; the place after it.
+pub fn put_program(page: &[u8], n: u16, tints: Tints, m: u32, words: &mut [i32], at: usize) -> usize
+    requires { ⌜ (m ≤ places) × (at + length (programWords tints (codeAfter (now page) n) m) ≤ length (now words)) ⌝ }
+    ensures stores { λ _. ⌜ now (words .exit) ≡ sets (now (words .entry)) at (programWords tints (codeAfter (now (page .entry)) n) m) ⌝ }
+    ensures next { λ r. ⌜ r ≡ at + length (programWords tints (codeAfter (now (page .entry)) n) m) ⌝ }
+{
+    let head = head_size(tints) as usize;
+    let size = put_run(page, n, program_run(page, n), words, at + head);
+    put_head(tints, word_of(m), word_of(size as u32), words, at);
+    at + head + size
 }

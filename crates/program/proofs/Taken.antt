@@ -22,7 +22,8 @@ use Rattle.symbols.specs.Tokens.{Token, opens, closes, ifT, ifelseT, copyT, ind
 use Rattle.program.specs.Words.{mark0, mark1, mark2, Outer, first, second, Words, going, ended!, begin, fails, flushW, countedW, rolledW, heldW, closedW, tokenW, tokenK, tokensK, keptOf}
 use Rattle.program.proofs.Compiled.{compiled}
 use Rattle.program.specs.Kept.{heldBy, markBy, outerBy, outersBy, keeps, stateK, waitK, heldK, Grown, words, sixteen, wanted, wantedW}
-use Rattle.program.specs.Texts.{mostTokens, readBy, readTokens}
+use Rattle.fixed.specs.Sizes.{mostTokens}
+use Rattle.program.specs.Texts.{readBy, readTokens}
 use Rattle.program.specs.declared.types.Kept.{Kept}
 
 -- ---- counts

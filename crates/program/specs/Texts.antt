@@ -4,13 +4,10 @@ use mathlib.Core.Bool.{cond}
 use mathlib.Core.List.{List}
 use lib.Dec.{leb}
 use lib.ListN.{length}
+use Rattle.fixed.specs.Sizes.{mostTokens}
 use Rattle.stack.specs.Programs.{Code}
 use Rattle.symbols.specs.Tokens.{Token, tokensOf}
 use Rattle.program.specs.Parse.{State, within, whole, start, bad, countZ, parsed}
-
--- the most tokens, braces counted
-abbrev pub mostTokens : ℕ
-mostTokens = 400
 
 -- the program of a text, or that it has none: 16
 pub data Read : Type 0 where

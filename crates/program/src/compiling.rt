@@ -5,10 +5,10 @@ ghost use lib.ListN.{length, take};
 ghost use Rattle.symbols.specs.Tokens.{gap, lexed, beforeZero};
 ghost use Rattle.program.specs.Texts.{readTokens, readOf};
 ghost use Rattle.program.specs.Kept.{wanted, builtBy, sizeBy};
-use crate::TOKENS;
 use crate::kept::state;
 use crate::tokens::token;
 use crate::types::Built;
+use fixed::TOKENS;
 use symbols::next;
 
 // The words of the program that the tokens of a text are, in the room lent.

@@ -10,8 +10,5 @@ mod words;
 pub use compiling::compile;
 pub use types::Built;
 
-// The most tokens of a text, braces counted.
-pub const TOKENS: usize = 400;
-
 // Room for the words of any text: a token gives at most two.
-pub const ROOM: usize = 800;
+pub const ROOM: usize = 2 * fixed::TOKENS;

@@ -8,6 +8,8 @@ ghost use Rattle.space.specs.Levels.{spaceIn};
 ghost use Rattle.parts.specs.Recipes.{stepsOf};
 ghost use Rattle.recipe.specs.SpaceWrites.{meaning, replied, wordsAfter};
 use crate::Written;
+use cie::Closing;
+use parts::put_closing;
 use parts::put_ends;
 use parts::put_program;
 use parts::put_row;
@@ -29,14 +31,21 @@ fn put_steps(page: &[u8], l: Level, words: &mut [i32], at: usize)
         Level::Plain(c, q) => {
             put_ends(c, q, words, at);
         }
+        Level::Blank(_) => {
+            put_closing(Closing::NoMark, words, at);
+        }
         Level::Separation(p) => {
             let s = plain_at(page, p.alternate);
             let next = put_tint(p, count(s), words, at);
             put_steps(page, s, words, next);
         }
-        Level::Program { block, alternate } => {
+        Level::Program {
+            block,
+            alternate,
+            tints,
+        } => {
             let s = plain_at(page, alternate);
-            let next = put_program(page, block, count(s), words, at);
+            let next = put_program(page, block, tints, count(s), words, at);
             put_steps(page, s, words, next);
         }
         Level::Indexed { block, base, hival } => {

@@ -6,7 +6,7 @@ use Rattle.layout.specs.Field.{FieldsFit}
 use Rattle.layout.proofs.Fields.{in-ranges-join}
 use Rattle.record.specs.Layout.{kindOf, body, rest, fields}
 use Rattle.record.specs.declared.types.Body.{Body}
-use Rattle.record.specs.declared.types.Body.the-variants.{Free, CalGray, CalRgb, Lab, Indexed, Separation, Palette, Program}
+use Rattle.record.specs.declared.types.Body.the-variants.{Free, CalGray, CalRgb, Lab, Indexed, Separation, Palette, Program, DeviceN}
 use Rattle.record.specs.declared.types.Record.{Record}
 
 -- a kind fits a byte, and the bytes of the room are no numbers of the body
@@ -19,6 +19,7 @@ by-kind (Indexed base hival) s h = (omega arith, h)
 by-kind (Separation p) s h = (omega arith, h)
 by-kind Palette s h = (omega arith, h)
 by-kind Program s h = (omega arith, h)
+by-kind (DeviceN alternate count) s h = (omega arith, h)
 
 pub in-ranges : (r : Record) → r .own < 65536 → FieldsFit (body (r .body) []) → FieldsFit (fields r)
 in-ranges r o h =

@@ -1,22 +1,23 @@
 -- What is read of a block is read of its 512 bytes: two lists that agree on those say the same.
-use mathlib.Core.Path.{_≡_, ap, _∙_}
-use mathlib.Core.Bool.{_&&_, cond}
-use mathlib.Core.List.{List}
-use Prim.Native.Nat.{ℕ, _+_, _-_, _*_, _≤_, _<_}
+use mathlib.Core.Path.{_≡_, refl, sym, ap, _∙_}
+use mathlib.Core.Bool.{true, _&&_, cond}
+use mathlib.Core.List.{List, _∷_, _++_}
+use Prim.Native.Nat.{ℕ, zero, suc, _+_, _-_, _*_, _≤_, _<_}
 use native.Mathlib.Omega.{arith}
 use native.Mathlib.Decide.{decLt}
-use lib.ListN.{length, set}
-use lib.Seq.{getD-set-same, getD-set-other}
+use lib.ListN.{length, getD, set, drop, replicate}
+use lib.Seq.{getD-set-same, getD-set-other, getD-drop}
 use lib.Dec.{eqb, leb}
 use Rattle.fixed.specs.Bytes.{byteAt, twoAt, numberAt}
 use Rattle.fixed.specs.Loops.{zeroBetween}
 use Rattle.fixed.proofs.Scans.{all-same}
 use Rattle.fixed.proofs.Totals.{total-same}
-use Rattle.record.specs.Layout.{namedTo, plain, weighed, checked}
-use Rattle.record.specs.Reading.{kindAt, ownAt, tripleAt, fourNumbersAt, grayAt, rgbAt, labAt, separationAt, bodyBy, bodyAt, SameBytes}
+use Rattle.layout.specs.Field.{padded}
+use Rattle.record.specs.Layout.{room, namesRoom, namedTo, plain, weighed, checked}
+use Rattle.record.specs.Reading.{kindAt, ownAt, tripleAt, fourNumbersAt, grayAt, rgbAt, labAt, separationAt, bodyBy, bodyAt, nameFrom, namesAt, SameBytes}
 use Rattle.record.specs.Rules.{wellLaid, nameShown, wellFormed}
 use Rattle.record.specs.declared.types.Body.{Body}
-use Rattle.record.specs.declared.types.Body.the-variants.{Free, CalGray, CalRgb, Lab, Indexed, Separation, Palette, Program}
+use Rattle.record.specs.declared.types.Body.the-variants.{Free, CalGray, CalRgb, Lab, Indexed, Separation, Palette, Program, DeviceN}
 use Rattle.record.proofs.Shapes.{name-same}
 
 -- one byte more of a block that is copied byte by byte
@@ -26,6 +27,13 @@ copied b d i x long h e before j l = by (decLt j i)
     by : Dec (j < i) → byteAt (set d i x) j ≡ byteAt b j
     by (yes m) = getD-set-other d i j x 0 (λ q. absurd (omega (arith, q, m))) ∙ before j m
     by (no m) = let q : j ≡ i = omega arith in rw q (getD-set-same d i x 0 (rw long h) ∙ e)
+
+-- the first n bytes of two lists that agree on them
+padded-same : (n : ℕ) (s t : List ℕ) → ((i : ℕ) → i < n → getD s i 0 ≡ getD t i 0) → padded n s ≡ padded n t
+unfolding padded
+padded-same zero s t h = refl
+padded-same (suc n) s t h =
+    λ j. h 0 (omega arith) j ∷ padded-same n (drop 1 s) (drop 1 t) (λ i l. getD-drop 1 s i 0 ∙ (h (1 + i) (omega arith) ∙ sym (getD-drop 1 t i 0))) j
 
 module _ (b c : List ℕ) (same : SameBytes b c) where
   -- numbers
@@ -109,7 +117,8 @@ module _ (b c : List ℕ) (same : SameBytes b c) where
       (cond (eqb k 4) (Indexed (two-same 4 (omega arith) i) (two-same 6 (omega arith) i))
       (cond (eqb k 5) (Separation (separation-same i))
       (cond (eqb k 6) Palette
-      (cond (eqb k 7) Program Free))))))
+      (cond (eqb k 7) Program
+      (cond (eqb k 8) (DeviceN (two-same 4 (omega arith) i) (same 6 (omega arith) i)) Free)))))))
 
   pub body-same : bodyAt b ≡ bodyAt c
   body-same = by-kind (kindAt b) ∙ ap (λ (k : ℕ). bodyBy k c) (same 0 (omega arith))
@@ -120,12 +129,16 @@ module _ (b c : List ℕ) (same : SameBytes b c) where
   known-same =
       let z : zeroBetween b (namedTo (bodyAt b)) 508 ≡ zeroBetween c (namedTo (bodyAt c)) 508 =
       ap (λ (y : Body). zeroBetween b (namedTo y) 508) body-same ∙ zero-same (namedTo (bodyAt c)) 508 (omega arith) in
-      λ i. leb (same 0 (omega arith) i) 7 && (eqb (same 1 (omega arith) i) 0 && z i)
+      λ i. leb (same 0 (omega arith) i) 8 && (eqb (same 1 (omega arith) i) 0 && (z i && cond (eqb (same 0 (omega arith) i) 8) (eqb (same 7 (omega arith) i) 0) true))
+
+  -- the names of a DeviceN, as the room has them
+  pub names-same : namesAt b ≡ namesAt c
+  names-same = ap (λ (l : List ℕ). l ++ replicate (room - namesRoom) 0) (padded-same namesRoom (drop nameFrom b) (drop nameFrom c) (λ i l. getD-drop nameFrom b i 0 ∙ (same (nameFrom + i) (omega arith) ∙ sym (getD-drop nameFrom c i 0))))
 
   shown-same : nameShown b ≡ nameShown c
   unfolding nameShown
   shown-same =
-      rw (same 0 (omega arith), same 7 (omega arith), name-same b c 8 8 (byteAt c 7) (λ i l. same (8 + i) (omega arith)))
+      rw (same 0 (omega arith), same 6 (omega arith), same 7 (omega arith), names-same, name-same b c 8 8 (byteAt c 7) (λ i l. same (8 + i) (omega arith)))
 
   pub formed-same : wellFormed b ≡ wellFormed c
   unfolding wellFormed

@@ -15,9 +15,9 @@ use Rattle.fixed.proofs.Scans.{all-same}
 use Rattle.layout.specs.Field.{padded}
 use Rattle.layout.proofs.Held.{length-padded, getD-padded, all-zero}
 use Rattle.record.specs.Layout.{kindOf, room}
-use Rattle.record.specs.Reading.{kindAt, ownAt, bodyBy, runAt, nameFrom, bytesBy, recordAt}
+use Rattle.record.specs.Reading.{kindAt, ownAt, bodyBy, runAt, nameFrom, namesAt, bytesBy, recordAt}
 use Rattle.fixed.specs.Bytes.{blocks}
-use Rattle.record.specs.Rules.{noneZero, nameFits, wellLaid, nameShown, wellFormed, used, wellNamed, wellShaped}
+use Rattle.record.specs.Rules.{noneZero, nameFits, namesFit, wellLaid, nameShown, wellFormed, used, wellNamed, wellShaped}
 use Rattle.record.specs.declared.types.Separation.{Separation as Ink}
 use Rattle.record.specs.declared.types.Body.{Body}
 use Rattle.record.specs.declared.types.Body.the-variants.{Separation}
@@ -90,12 +90,17 @@ name-run b p e = by-kinds (kindAt b) (ap kindOf e)
         cond-ind P (eqb k 4) (λ _ e. absurd (omega arith)) (λ _.
         cond-ind P (eqb k 5) (λ t _. rw t) (λ _.
         cond-ind P (eqb k 6) (λ _ e. absurd (omega arith)) (λ _.
-        cond-ind P (eqb k 7) (λ _ e. absurd (omega arith)) (λ _ e. absurd (omega arith))))))))
+        cond-ind P (eqb k 7) (λ _ e. absurd (omega arith)) (λ _.
+        cond-ind P (eqb k 8) (λ _ e. absurd (omega arith)) (λ _ e. absurd (omega arith)))))))))
 
 -- ---- the record read shows of refusal 3 what the block shows
 
-by-kind : (b : List ℕ) (k : ℕ) → k ≤ 7
-    → cond (eqb k 5) (nameFits b 8 (byteAt b 7)) true ≡ (wellNamed (bodyBy k b) (bytesBy k b) && zeroBetween (bytesBy k b) (used (bodyBy k b)) 504)
+and-true : (a : Bool) → (a && true) ≡ a
+and-true true = refl
+and-true false = refl
+
+by-kind : (b : List ℕ) (k : ℕ) → k ≤ 8
+    → cond (eqb k 5) (nameFits b 8 (byteAt b 7)) (cond (eqb k 8) (namesFit (namesAt b) (byteAt b 6)) true) ≡ (wellNamed (bodyBy k b) (bytesBy k b) && zeroBetween (bytesBy k b) (used (bodyBy k b)) 504)
 unfolding bodyBy bytesBy wellNamed
 by-kind b zero p = sym no-bytes
 by-kind b (suc zero) p = sym no-bytes
@@ -105,17 +110,14 @@ by-kind b (suc (suc (suc (suc zero)))) p = sym no-bytes
 by-kind b (suc (suc (suc (suc (suc zero))))) p =
     name-same b (runAt b 8 128) 8 0 (byteAt b 7) (λ i l. let e : 0 + i ≡ i = omega arith in rw e (sym (run-at b 8 128 i l)))
     ∙ sym (rw (run-zeros b 8 128) (and-true _))
-  where
-    and-true : (a : Bool) → (a && true) ≡ a
-    and-true true = refl
-    and-true false = refl
 by-kind b (suc (suc (suc (suc (suc (suc zero)))))) p = sym (run-zeros b 4 504)
 by-kind b (suc (suc (suc (suc (suc (suc (suc zero))))))) p = sym (run-zeros b 4 504)
-by-kind b (suc (suc (suc (suc (suc (suc (suc (suc k)))))))) p = absurd (omega arith)
+by-kind b (suc (suc (suc (suc (suc (suc (suc (suc zero)))))))) p = sym (rw (run-zeros b 8 500) (and-true _))
+by-kind b (suc (suc (suc (suc (suc (suc (suc (suc (suc k))))))))) p = absurd (omega arith)
 
 pub shown-named : (b : List ℕ) → wellLaid b ≡ true → nameShown b ≡ (wellNamed (recordAt b .body) (recordAt b .bytes) && zeroBetween (recordAt b .bytes) (used (recordAt b .body)) 504)
 unfolding wellLaid nameShown recordAt
-shown-named b k = by-kind b (kindAt b) (leb-true _ 7 (and-left _ _ k))
+shown-named b k = by-kind b (kindAt b) (leb-true _ 8 (and-left _ _ k))
 
 -- formed, with an own number that a page can have, is known and shaped: what is tested on a page is what is tested on a block alone
 pub formed-shaped : (b : List ℕ) → (wellFormed b && ltb (ownAt b) blocks) ≡ (wellLaid b && wellShaped (recordAt b))

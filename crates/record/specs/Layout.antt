@@ -11,7 +11,7 @@ use Rattle.record.specs.declared.types.Triple.{Triple}
 use Rattle.record.specs.declared.types.Ranges.{Ranges}
 use Rattle.record.specs.declared.types.Four.{Four}
 use Rattle.record.specs.declared.types.Body.{Body}
-use Rattle.record.specs.declared.types.Body.the-variants.{Free, CalGray, CalRgb, Lab, Indexed, Separation, Palette, Program}
+use Rattle.record.specs.declared.types.Body.the-variants.{Free, CalGray, CalRgb, Lab, Indexed, Separation, Palette, Program, DeviceN}
 use Rattle.record.specs.declared.types.Record.{Record}
 
 -- three numbers, the four of a range and any four, before further fields
@@ -38,12 +38,17 @@ kindOf (Indexed base hival) = 4
 kindOf (Separation p) = 5
 kindOf Palette = 6
 kindOf Program = 7
+kindOf (DeviceN alternate count) = 8
 
 -- how many bytes the room of a record has, and a block's part of a palette or of a program's text
 abbrev pub room : ℕ
 room = 504
 
--- the column "body", from byte 4 on; s is the record's room, with the name in its first 128 places, or the palette or program
+-- how many bytes of a block the names of a DeviceN may take
+abbrev pub namesRoom : ℕ
+namesRoom = 500
+
+-- the column "body", from byte 4 on; s is the record's room, with the name in its first 128 places, a DeviceN's names in its first 500, or the palette or program
 abbrev pub body : Body → List ℕ → List Field
 body Free s = []
 body (CalGray g) s = triple (g .white) (triple (g .black) (num (g .gamma) ∷ []))
@@ -54,6 +59,7 @@ body (Separation p) s =
     two (p .alternate) ∷ one (p .exponent) ∷ one (p .«name_len») ∷ run 128 s ∷ four (p .c0) (four (p .c1) [])
 body Palette s = run room s ∷ []
 body Program s = run room s ∷ []
+body (DeviceN alternate count) s = two alternate ∷ one count ∷ one 0 ∷ run namesRoom s ∷ []
 
 -- the byte past the last that the body names
 abbrev pub namedTo : Body → ℕ

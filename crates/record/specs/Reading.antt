@@ -2,13 +2,13 @@
 use mathlib.Core.List.{List, [], _∷_, _++_}
 use mathlib.Core.Bool.{Bool, _&&_, cond}
 use mathlib.Core.Path.{_≡_}
-use Prim.Native.Nat.{ℕ, _+_, _-_, _<_}
+use Prim.Native.Nat.{ℕ, zero, suc, _+_, _-_, _<_}
 use lib.ListN.{length, drop, replicate}
 use lib.Dec.{eqb}
 use Rattle.fixed.specs.Bytes.{byteAt, twoAt, numberAt}
 use Rattle.fixed.specs.Loops.{allBetween}
 use Rattle.layout.specs.Field.{padded}
-use Rattle.record.specs.Layout.{room}
+use Rattle.record.specs.Layout.{room, namesRoom}
 use Rattle.record.specs.declared.types.Triple.{Triple}
 use Rattle.record.specs.declared.types.Ranges.{Ranges}
 use Rattle.record.specs.declared.types.Four.{Four}
@@ -17,7 +17,7 @@ use Rattle.record.specs.declared.types.CalRgb.{CalRgb as RgbSpace}
 use Rattle.record.specs.declared.types.Lab.{Lab as LabSpace}
 use Rattle.record.specs.declared.types.Separation.{Separation as Ink}
 use Rattle.record.specs.declared.types.Body.{Body}
-use Rattle.record.specs.declared.types.Body.the-variants.{Free, CalGray, CalRgb, Lab, Indexed, Separation, Palette, Program}
+use Rattle.record.specs.declared.types.Body.the-variants.{Free, CalGray, CalRgb, Lab, Indexed, Separation, Palette, Program, DeviceN}
 use Rattle.record.specs.declared.types.Record.{Record}
 
 -- byte 0, and bytes 2-3
@@ -63,7 +63,7 @@ abbrev pub separationAt : List ℕ → Ink
 separationAt b =
     record { alternate = twoAt b 4; exponent = byteAt b 6; «name_len» = byteAt b 7; c0 = fourNumbersAt b 136; c1 = fourNumbersAt b 152 }
 
--- the body of a block of kind k: base 4 and hival 6 of an Indexed one; an unknown kind is read as free
+-- the body of a block of kind k: base 4 and hival 6 of an Indexed one, alternate 4 and count of names 6 of a DeviceN; an unknown kind is read as free
 unfoldable pub bodyBy : ℕ → List ℕ → Body
 bodyBy k b =
     cond (eqb k 1) (CalGray (grayAt b))
@@ -72,7 +72,8 @@ bodyBy k b =
     (cond (eqb k 4) (Indexed (twoAt b 4) (twoAt b 6))
     (cond (eqb k 5) (Separation (separationAt b))
     (cond (eqb k 6) Palette
-    (cond (eqb k 7) Program Free))))))
+    (cond (eqb k 7) Program
+    (cond (eqb k 8) (DeviceN (twoAt b 4) (byteAt b 6)) Free)))))))
 
 abbrev pub bodyAt : List ℕ → Body
 bodyAt b = bodyBy (kindAt b) b
@@ -81,17 +82,22 @@ bodyAt b = bodyBy (kindAt b) b
 abbrev pub runAt : List ℕ → ℕ → ℕ → List ℕ
 runAt b at n = padded n (drop at b) ++ replicate (room - n) 0
 
--- where the name of a Separation begins in its block
+-- where the name of a Separation begins in its block, and the names of a DeviceN
 abbrev pub nameFrom : ℕ
 nameFrom = 8
 
--- the room of a block of kind k: the name, or the part of a palette or of a program's text
+-- the names of a DeviceN, as its record's room has them
+abbrev pub namesAt : List ℕ → List ℕ
+namesAt b = runAt b nameFrom namesRoom
+
+-- the room of a block of kind k: the name, the names, or the part of a palette or of a program's text
 unfoldable pub bytesBy : ℕ → List ℕ → List ℕ
 bytesBy k b =
     cond (eqb k 5) (runAt b nameFrom 128)
     (cond (eqb k 6) (runAt b 4 room)
     (cond (eqb k 7) (runAt b 4 room)
-    (replicate room 0)))
+    (cond (eqb k 8) (namesAt b)
+    (replicate room 0))))
 
 -- byte k of the part of a palette, or of a program's text
 abbrev pub paletteAt : List ℕ → ℕ → ℕ
@@ -104,9 +110,26 @@ theNone = 0x4E ∷ 0x6F ∷ 0x6E ∷ 0x65 ∷ []
 abbrev pub theAll : List ℕ
 theAll = 0x41 ∷ 0x6C ∷ 0x6C ∷ []
 
--- the name of a block is exactly these bytes: as long, name length 7, and the same byte by byte from the name's place on
-unfoldable pub nameIs : List ℕ → List ℕ → Bool
-nameIs b name = eqb (byteAt b 7) (length name) && allBetween (λ k. eqb (byteAt b (nameFrom + k)) (byteAt name k)) 0 (length name)
+-- a name is its length, one byte, and then so many bytes. The name at `at` is exactly these bytes: as long, and the same byte by byte
+unfoldable pub nameIs : List ℕ → ℕ → List ℕ → Bool
+nameIs s at name = eqb (byteAt s at) (length name) && allBetween (λ k. eqb (byteAt s (at + 1 + k)) (byteAt name k)) 0 (length name)
+
+-- the name of a Separation, whose length is byte 7
+abbrev pub inkIs : List ℕ → List ℕ → Bool
+inkIs b name = nameIs b 7 name
+
+-- the names at p and at q are the same
+unfoldable pub sameNames : List ℕ → ℕ → ℕ → Bool
+sameNames s p q = eqb (byteAt s p) (byteAt s q) && allBetween (λ k. eqb (byteAt s (p + 1 + k)) (byteAt s (q + 1 + k))) 0 (byteAt s p)
+
+-- of names that stand straight one after the other from the start of s, where name k stands
+unfoldable pub namePlace : List ℕ → ℕ → ℕ
+namePlace s zero = 0
+namePlace s (suc k) = namePlace s k + 1 + byteAt s (namePlace s k)
+
+-- the first n of them are all None
+unfoldable pub allNone : List ℕ → ℕ → Bool
+allNone s n = allBetween (λ k. nameIs s (namePlace s k) theNone) 0 n
 
 -- the record that a block holds
 unfoldable pub recordAt : List ℕ → Record

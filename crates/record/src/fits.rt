@@ -31,6 +31,10 @@ fn separation_fits(p: Separation)
     ensures { λ _. ⌜ FieldsFit (body (Body.Separation p) []) ⌝ }
 {}
 
+fn device_n_fits(alternate: u16, count: u8)
+    ensures { λ _. ⌜ FieldsFit (body (Body.DeviceN alternate count) []) ⌝ }
+{}
+
 fn body_fits(y: Body)
     ensures { λ _. ⌜ FieldsFit (body y []) ⌝ }
 {
@@ -53,6 +57,9 @@ fn body_fits(y: Body)
         }
         Body::Palette => {}
         Body::Program => {}
+        Body::DeviceN { alternate, count } => {
+            device_n_fits(alternate, count);
+        }
     }
 }
 

@@ -2,8 +2,8 @@
 ghost use mathlib.Core.Path.{_≡_};
 ghost use Prim.Native.Nat.{_+_, _<_, _≤_};
 ghost use lib.ListN.{length, drop};
-ghost use Rattle.fixed.specs.Bytes.{blockAt, twoAt};
-ghost use Rattle.record.specs.Reading.{kindAt, tripleAt, rangesAt, fourNumbersAt, grayAt, rgbAt, labAt, separationAt, ownAt, bodyAt, runAt, bytesBy, paletteAt, recordAt, SameBytes};
+ghost use Rattle.fixed.specs.Bytes.{blockAt, byteAt, twoAt};
+ghost use Rattle.record.specs.Reading.{kindAt, tripleAt, rangesAt, fourNumbersAt, grayAt, rgbAt, labAt, separationAt, ownAt, bodyAt, runAt, namesAt, bytesBy, paletteAt, recordAt, SameBytes};
 ghost use Rattle.record.specs.Layout.{room, entriesOf};
 ghost use Rattle.record.specs.Rules.{isPalette, isProgram};
 use crate::types::Body;
@@ -12,6 +12,7 @@ use crate::types::CalRgb;
 use crate::types::Four;
 use crate::types::Lab;
 use crate::types::NAME_FROM;
+use crate::types::NAMES;
 use crate::types::ROOM;
 use crate::types::Ranges;
 use crate::types::Record;
@@ -116,6 +117,15 @@ fn indexed_in(page: &[u8], start: usize) -> Body
     Body::Indexed { base, hival }
 }
 
+fn device_n_in(page: &[u8], start: usize) -> Body
+    requires { ⌜ start + 512 ≤ length (now page) ⌝ }
+    ensures { λ r. ⌜ r ≡ Body.DeviceN (twoAt (drop start (now (page .entry))) 4) (byteAt (drop start (now (page .entry))) 6) ⌝ }
+{
+    let alternate = two_in(page, start, 4) as u16;
+    let count = byte_in(page, start, 6) as u8;
+    Body::DeviceN { alternate, count }
+}
+
 fn separation_in(page: &[u8], start: usize) -> Separation
     requires { ⌜ start + 512 ≤ length (now page) ⌝ }
     ensures { λ r. ⌜ r ≡ separationAt (drop start (now (page .entry))) ⌝ }
@@ -148,6 +158,7 @@ fn body_in(page: &[u8], start: usize) -> Body
         5 => Body::Separation(separation_in(page, start)),
         6 => Body::Palette,
         7 => Body::Program,
+        8 => device_n_in(page, start),
         _ => Body::Free,
     }
 }
@@ -234,6 +245,13 @@ fn run_at(page: &[u8], n: u32, at: u32, count: u32) -> [u8; 504]
     bytes
 }
 
+// The names of the DeviceN in block n, as its record's room has them.
+pub fn names_at(page: &[u8], n: u32) -> [u8; 504]
+    ensures { λ r. ⌜ r ≡ namesAt (blockAt (now (page .entry)) n) ⌝ }
+{
+    run_at(page, n, NAME_FROM, NAMES)
+}
+
 fn bytes_at(page: &[u8], n: u32, kind: u32) -> [u8; 504]
     ensures { λ r. ⌜ r ≡ bytesBy kind (blockAt (now (page .entry)) n) ⌝ }
 {
@@ -245,6 +263,9 @@ fn bytes_at(page: &[u8], n: u32, kind: u32) -> [u8; 504]
     }
     if kind == 7 {
         return run_at(page, n, 4, ROOM);
+    }
+    if kind == 8 {
+        return names_at(page, n);
     }
     [0u8; 504]
 }

@@ -6,8 +6,11 @@ pub const NUMBERS: u16 = fixed::BLOCKS as u16;
 // How many bytes the room of a record has, and a block's part of a palette.
 pub const ROOM: u32 = 504;
 
-// Where the name of a Separation begins in its block.
+// Where the name of a Separation begins in its block, and the names of a DeviceN.
 pub const NAME_FROM: u32 = 8;
+
+// How many bytes of a block the names of a DeviceN may take.
+pub const NAMES: u32 = 500;
 
 // Three numbers: a point of XYZ, or one for each of three components.
 pub struct Triple {
@@ -75,10 +78,12 @@ pub enum Body {
     Separation(Separation),
     Palette,
     Program,
+    // The names stand in the first bytes of the record's room, `count` of them, each its length and its bytes, straight one after the other.
+    DeviceN { alternate: u16, count: u8 },
 }
 
-// A record: its own number, its body, and room for bytes, with a Separation's name in the first 128 places, or a part of a palette or of a program's text in
-// all 504.
+// A record: its own number, its body, and room for bytes, with a Separation's name in the first 128 places, a DeviceN's names in the first 500, or a part of a
+// palette or of a program's text in all 504.
 pub struct Record {
     pub own: u16,
     pub body: Body,

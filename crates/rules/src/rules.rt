@@ -1,10 +1,14 @@
 // Refusals 4, 5 and 6: the rules on numbers, the house limits, and references; and the first refusal that a record meets.
 ghost use mathlib.Core.Path.{_≡_};
+ghost use Prim.Native.Nat.{_≤_};
 ghost use mathlib.Core.Bool.{_&&_};
 ghost use lib.IntN.{pos};
 ghost use lib.Signed.{ltZ};
 ghost use Rattle.fixed.specs.Numbers.{gammaSupported};
-ghost use Rattle.record.specs.Rules.{whitePoint, blackPoint, ordered, lawful, supported, refers, faultOf};
+ghost use Rattle.fixed.specs.Bytes.{blockAt};
+ghost use Rattle.record.specs.Reading.{namesAt};
+ghost use Rattle.record.specs.Rules.{whitePoint, blackPoint, ordered, lawful, nameCount, lawfulIn, supported, refers, faultOf};
+use crate::naming::are_lawful;
 use crate::shape::is_well_shaped;
 use fixed::is_device;
 use fixed::is_exponent;
@@ -17,6 +21,7 @@ use record::NUMBERS;
 use record::Ranges;
 use record::Record;
 use record::Triple;
+use record::names_at;
 
 fn is_white(t: Triple) -> bool
     ensures { λ r. ⌜ r ≡ whitePoint t ⌝ }
@@ -68,7 +73,7 @@ fn lab_lawful(g: Lab) -> bool
 }
 
 // Whether no number of a body breaks a clause rule: else it is refused with 4.
-pub fn is_lawful(y: Body) -> bool
+fn is_lawful(y: Body) -> bool
     ensures { λ r. ⌜ r ≡ lawful y ⌝ }
 {
     match y {
@@ -80,6 +85,10 @@ pub fn is_lawful(y: Body) -> bool
         Body::Separation(_) => true,
         Body::Palette => true,
         Body::Program => true,
+        Body::DeviceN {
+            alternate: _,
+            count: _,
+        } => true,
     }
 }
 
@@ -105,6 +114,10 @@ pub fn is_supported(y: Body) -> bool
         Body::Separation(p) => (p.exponent == 0) | is_exponent(p.exponent as u32),
         Body::Palette => true,
         Body::Program => true,
+        Body::DeviceN {
+            alternate: _,
+            count: _,
+        } => true,
     }
 }
 
@@ -121,7 +134,51 @@ pub fn is_referring(y: Body) -> bool
         Body::Separation(p) => is_device(p.alternate as u32) | (p.alternate < NUMBERS),
         Body::Palette => true,
         Body::Program => true,
+        Body::DeviceN {
+            alternate,
+            count: _,
+        } => is_device(alternate as u32) | (alternate < NUMBERS),
     }
+}
+
+// How many names a body has.
+pub fn name_count(y: Body) -> u32
+    ensures is { λ r. ⌜ r ≡ nameCount y ⌝ }
+    ensures small { λ r. ⌜ r ≤ 255 ⌝ }
+{
+    match y {
+        Body::Free => 0,
+        Body::CalGray(_) => 0,
+        Body::CalRgb(_) => 0,
+        Body::Lab(_) => 0,
+        Body::Indexed { base: _, hival: _ } => 0,
+        Body::Separation(_) => 0,
+        Body::Palette => 0,
+        Body::Program => 0,
+        Body::DeviceN {
+            alternate: _,
+            count,
+        } => count as u32,
+    }
+}
+
+// The same of a body whose names stand in s.
+fn is_lawful_in(s: &[u8], y: Body) -> bool
+    ensures { λ r. ⌜ r ≡ lawfulIn (now (s .entry)) y ⌝ }
+{
+    is_lawful(y) & are_lawful(s, name_count(y))
+}
+
+// The same of block n, whose body is y: its names are looked at where it has any.
+pub fn is_lawful_at(page: &[u8], n: u32, y: Body) -> bool
+    ensures { λ r. ⌜ r ≡ lawfulIn (namesAt (blockAt (now (page .entry)) n)) y ⌝ }
+{
+    let lawful = is_lawful(y);
+    let count = name_count(y);
+    if count == 0 {
+        return lawful;
+    }
+    lawful & are_lawful(&names_at(page, n), count)
 }
 
 // The first refusal of 3, 4, 5, 6 that a record meets, or 0.
@@ -129,8 +186,9 @@ pub fn fault(r: Record) -> u32
     ensures { λ n. ⌜ n ≡ faultOf r ⌝ }
 {
     let y = r.body;
+    let s = r.bytes;
     let shaped = is_well_shaped(r);
-    let lawful = is_lawful(y);
+    let lawful = is_lawful_in(&s, y);
     let supported = is_supported(y);
     let refers = is_referring(y);
     if !shaped {

@@ -1,19 +1,25 @@
 // Refusal 3: bytes that must be zero, names, kinds and own numbers, of a block and of a record.
 ghost use mathlib.Core.Path.{_≡_};
+ghost use mathlib.Core.Bool.{true, cond};
 ghost use mathlib.Core.List.{List};
 ghost use Prim.Native.Nat.{ℕ, _+_, _*_, _≤_};
+ghost use lib.Dec.{eqb};
 ghost use lib.ListN.{length};
-ghost use Rattle.fixed.specs.Bytes.{blockAt};
-ghost use Rattle.fixed.specs.Loops.{zeroBetween};
+ghost use Rattle.fixed.specs.Bytes.{blockAt, byteAt};
+ghost use Rattle.fixed.specs.Loops.{allBetween, zeroBetween};
 ghost use Rattle.record.specs.Layout.{namedTo};
-ghost use Rattle.record.specs.Reading.{bodyBy};
-ghost use Rattle.record.specs.Rules.{noneZero, nameFits, wellLaid, nameShown, wellFormed, used, wellNamed, wellShaped};
+ghost use Rattle.record.specs.Reading.{bodyBy, namePlace};
+ghost use Rattle.record.specs.Rules.{noneZero, nameFits, nameFitsAt, namesFit, wellLaid, nameShown, wellFormed, used, wellNamed, wellShaped};
+use fixed::VALUES;
 use octets::byte_at;
 use record::Body;
 use record::NAME_FROM;
+use record::NAMES;
 use record::NUMBERS;
 use record::ROOM;
 use record::Record;
+use record::name_place;
+use record::names_at;
 
 // Whether the bytes from `from` to below `to` of block n, which the page has, are zero: it looks at each of them.
 fn all_zero(page: &[u8], n: u32, from: u32, to: u32) -> bool
@@ -81,6 +87,40 @@ fn name_fits(page: &[u8], n: u32, start: u32, count: u32) -> bool
             & (none_zero(page, n, start, to) & zero_between(page, n, to, start + 128)))
 }
 
+// Whether the name at `at`, of a DeviceN, has 1 to 48 bytes, none of them zero.
+fn name_fits_at(s: &[u8], at: u32) -> bool
+    requires { ⌜ at ≤ 65536 ⌝ }
+    ensures { λ r. ⌜ r ≡ nameFitsAt (now (s .entry)) at ⌝ }
+{
+    let count = byte_at(s, 0, at);
+    (1 <= count) & ((count <= 48) & none_zero(s, 0, at + 1, at + 1 + count))
+}
+
+fn all_fit(s: &[u8], n: u32) -> bool
+    requires { ⌜ n ≤ 255 ⌝ }
+    ensures { λ r. ⌜ r ≡ allBetween (λ k. nameFitsAt (now (s .entry)) (namePlace (now (s .entry)) k)) 0 n ⌝ }
+{
+    let mut k: u32 = 0;
+    while k < n {
+        if !name_fits_at(s, name_place(s, k)) {
+            return false;
+        }
+        k += 1;
+    }
+    true
+}
+
+// Whether s has n names, 1 to 8, and zeros past them in the room of names.
+fn names_fit(s: &[u8], n: u32) -> bool
+    ensures { λ r. ⌜ r ≡ namesFit (now (s .entry)) n ⌝ }
+{
+    if (1 <= n) & (n <= (VALUES as u32)) {
+        let end = name_place(s, n);
+        return all_fit(s, n) & zero_between(s, 0, end, NAMES);
+    }
+    false
+}
+
 fn named_to(kind: u32) -> u32
     ensures { λ r. ⌜ ((b : List ℕ) → r ≡ namedTo (bodyBy kind b)) ⌝ }
 {
@@ -92,8 +132,19 @@ fn named_to(kind: u32) -> u32
         5 => 168,
         6 => 508,
         7 => 508,
+        8 => 508,
         _ => 4,
     }
+}
+
+// Whether byte 7 of a DeviceN is zero, which its body does not name.
+fn is_seven_zero(page: &[u8], n: u32, kind: u32) -> bool
+    ensures { λ r. ⌜ r ≡ cond (eqb kind 8) (eqb (byteAt (blockAt (now (page .entry)) n) 7) 0) true ⌝ }
+{
+    if kind == 8 {
+        return byte_at(page, n, 7) == 0;
+    }
+    true
 }
 
 // Whether block n has a known kind, and zeros in byte 1 and where its body names no byte.
@@ -102,14 +153,20 @@ pub fn is_well_laid(page: &[u8], n: u32) -> bool
 {
     let kind = byte_at(page, n, 0);
     let to = named_to(kind);
-    (kind <= 7) & ((byte_at(page, n, 1) == 0) & zero_between(page, n, to, 508))
+    (kind <= 8)
+        & ((byte_at(page, n, 1) == 0)
+            & (zero_between(page, n, to, 508) & is_seven_zero(page, n, kind)))
 }
 
 fn is_name_shown(page: &[u8], n: u32) -> bool
     ensures { λ r. ⌜ r ≡ nameShown (blockAt (now (page .entry)) n) ⌝ }
 {
-    if byte_at(page, n, 0) == 5 {
+    let kind = byte_at(page, n, 0);
+    if kind == 5 {
         return name_fits(page, n, NAME_FROM, byte_at(page, n, 7));
+    }
+    if kind == 8 {
+        return names_fit(&names_at(page, n), byte_at(page, n, 6));
     }
     true
 }
@@ -133,6 +190,10 @@ fn used_of(y: Body) -> u32
         Body::Separation(_) => 128,
         Body::Palette => ROOM,
         Body::Program => ROOM,
+        Body::DeviceN {
+            alternate: _,
+            count: _,
+        } => NAMES,
     }
 }
 
@@ -148,6 +209,10 @@ fn is_well_named(y: Body, s: &[u8]) -> bool
         Body::Separation(p) => name_fits(s, 0, 0, p.name_len as u32),
         Body::Palette => true,
         Body::Program => true,
+        Body::DeviceN {
+            alternate: _,
+            count,
+        } => names_fit(s, count as u32),
     }
 }
 

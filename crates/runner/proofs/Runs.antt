@@ -1,5 +1,5 @@
 -- What each step of a recipe does, over plain lists: a run that begins with the step's words is the run of the words after them, or the answer.
-use mathlib.Core.Path.{_≡_, refl, ap, ap₂, _∙_}
+use mathlib.Core.Path.{_≡_, refl, sym, ap, ap₂, _∙_}
 use mathlib.Core.Bool.{true, false, cond, _||_}
 use mathlib.Core.List.{List, [], _∷_, _++_, append-assoc}
 use Prim.Native.Nat.{ℕ, suc, _+_, _*_, _≤_, _<_}
@@ -11,10 +11,11 @@ use lib.ListN.{length, drop, length-append, List·getD-append}
 use lib.Seq.{drop-append-seam, drop-at}
 use borrow.Author.Tests.{le-ltb, eq-eqb}
 use Rattle.fixed.specs.Numbers.{exponentSupported, gammaSupported, tintValue, outside, indexOutside}
-use Rattle.fixed.specs.Values.{value, places, started, limitStep, indexOf, rowFrom, rowStep, tintOf, tintedBy, tintStep}
+use Rattle.fixed.specs.Values.{value, places, widest, started, limitStep, indexOf, rowFrom, rowStep, tintOf, tintedBy, tintStep}
 use Rattle.fixed.proofs.Listed.{filled-same, index-within, row-room}
 use Rattle.fixed.specs.declared.values.Colour.{Colour}
-use Rattle.form.specs.Steps.{wellFormed, formStep}
+use Rattle.form.specs.Steps.{takenBy, headWords, wellFormed, partOf, formStep}
+use Rattle.form.specs.declared.Tints.{Tints}
 use Rattle.form.proofs.Parts.{part-there}
 use Rattle.cie.specs.Answers.{refusal}
 use Rattle.cie.specs.Closings.{closed}
@@ -26,8 +27,9 @@ use Rattle.cie.specs.declared.Closing.the-variants.{Gray, Rgb, Cmyk, CalGray, C
 use Rattle.steps.specs.Steps.{stepOf}
 use Rattle.steps.specs.declared.Step.the-variants.{Close}
 use Rattle.steps.specs.declared.Read.the-variants.{At}
-use Rattle.steps.proofs.Parsed.{one-to, limit-read, tint-read, program-read, row-read, device-gray-read, device-rgb-read, device-cmyk-read, gray-read, rgb-read, lab-read, no-mark-read, every-ink-read}
-use Rattle.runner.specs.Runs.{longest, ended, runs, ran}
+use Rattle.steps.proofs.Parsed.{one-to, headSize, limit-read, tint-read, program-read, row-read, device-gray-read, device-rgb-read, device-cmyk-read, gray-read, rgb-read, lab-read, no-mark-read, every-ink-read}
+use Rattle.fixed.specs.Sizes.{longest}
+use Rattle.runner.specs.Runs.{ended, runs, ran}
 use Rattle.runner.proofs.Stepped.{begun}
 
 -- ---- the input count
@@ -44,7 +46,7 @@ limit-run n c k lo hi l v h o = begun n c (pos 1 ∷ pos k ∷ lo ∷ hi ∷ l) 
 
 -- ---- a tint: m C0s, then m C1s
 
-module _ (e m : ℕ) (c0 c1 l : List ℤ) (supported : exponentSupported e ≡ true) (low : 1 ≤ m) (high : m ≤ places) (h0 : length c0 ≡ m) (h1 : length c1 ≡ m) where
+module _ (e m : ℕ) (c0 c1 l : List ℤ) (supported : exponentSupported e ≡ true) (low : 1 ≤ m) (high : m ≤ widest) (h0 : length c0 ≡ m) (h1 : length c1 ≡ m) where
   abbrev tinted : List ℤ
   tinted = (pos 3 ∷ pos e ∷ pos m ∷ (c0 ++ c1)) ++ l
 
@@ -73,22 +75,24 @@ module _ (e m : ℕ) (c0 c1 l : List ℤ) (supported : exponentSupported e ≡ t
   pub tint-run : (n c : ℕ) (v : Colour) → runs n c ((pos 3 ∷ pos e ∷ pos m ∷ (c0 ++ c1)) ++ l) v ≡ runs n c l (tintStep e m c0 c1 v)
   tint-run n c v = begun n c tinted v (tint-read e m c0 c1 l supported low high h0 h1) ∙ ap₂ (λ (x : List ℤ) (y : Colour). runs n c x y) tint-drop (tint-same v)
 
--- ---- a program: a flat form of k words that leaves m numbers
+-- ---- a program: a flat form of k words that takes the tints i and leaves m numbers
 
-module _ (m k : ℕ) (ws l : List ℤ) (size : length ws ≡ k) (formed : wellFormed ws m ≡ true) where
+module _ (i : Tints) (m k : ℕ) (ws l : List ℤ) (size : length ws ≡ k) (formed : wellFormed ws (takenBy i) m ≡ true) where
   abbrev programmed : List ℤ
-  programmed = (pos 12 ∷ pos m ∷ pos k ∷ ws) ++ l
+  programmed = (headWords i ++ (pos m ∷ pos k ∷ ws)) ++ l
 
-  abbrev head : List ℤ
-  head = pos 12 ∷ pos m ∷ pos k ∷ []
+  program-drop : drop (headSize i + k) programmed ≡ l
+  program-drop = drop-at (headWords i ++ (pos m ∷ pos k ∷ ws)) l (headSize i + k) (simp length-append (omega arith))
 
-  program-drop : drop (3 + k) programmed ≡ l
-  program-drop = drop-at (pos 12 ∷ pos m ∷ pos k ∷ ws) l (3 + k) (let e : suc (suc (suc (length ws))) ≡ 3 + k = omega arith in e)
+  program-part : partOf programmed (headSize i) k ≡ ws
+  program-part =
+      ap (λ (x : List ℤ). partOf x (headSize i) k) (ap (λ (x : List ℤ). x ++ l) (sym (append-assoc (headWords i) (pos m ∷ pos k ∷ []) ws)) ∙ append-assoc (headWords i ++ (pos m ∷ pos k ∷ [])) ws l)
+      ∙ part-there (headWords i ++ (pos m ∷ pos k ∷ [])) ws l (headSize i) k (length-append (headWords i) (pos m ∷ pos k ∷ [])) size
 
-  pub program-run : (n c : ℕ) (v : Colour) → runs n c ((pos 12 ∷ pos m ∷ pos k ∷ ws) ++ l) v ≡ runs n c l (formStep m ws v)
+  pub program-run : (n c : ℕ) (v : Colour) → runs n c ((headWords i ++ (pos m ∷ pos k ∷ ws)) ++ l) v ≡ runs n c l (formStep (takenBy i) m ws v)
   program-run n c v =
-      begun n c programmed v (program-read m k ws l size formed)
-      ∙ ap₂ (λ (x y : List ℤ). runs n c x (formStep m y v)) program-drop (part-there head ws l 3 k refl size)
+      begun n c programmed v (program-read i m k ws l size formed)
+      ∙ ap₂ (λ (x y : List ℤ). runs n c x (formStep (takenBy i) m y v)) program-drop program-part
 
 -- ---- a row of a table of h + 1 rows, m entries each
 

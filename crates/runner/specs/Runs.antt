@@ -5,20 +5,17 @@ use mathlib.Core.List.{List, [], _∷_}
 use lib.IntN.{ℤ}
 use lib.Dec.{ltb, eqb}
 use lib.ListN.{length, drop}
-use Rattle.fixed.specs.Values.{value, smallOf, places, started, limitStep, rowStep, tintStep}
+use Rattle.fixed.specs.Values.{value, smallOf, places, fills, started, limitStep, rowStep, tintStep}
+use Rattle.fixed.specs.Sizes.{longest}
 use Rattle.fixed.specs.declared.values.Colour.{Colour}
 use Rattle.form.specs.Steps.{partOf, formStep}
 use Rattle.cie.specs.Answers.{Reply, refusal}
 use Rattle.cie.specs.Closings.{closed}
 use Rattle.cie.specs.declared.Closing.{Closing}
-use Rattle.steps.specs.Steps.{fills, stepOf}
+use Rattle.steps.specs.Steps.{stepOf}
 use Rattle.steps.specs.declared.Step.{Step}
 use Rattle.steps.specs.declared.Step.the-variants.{Limit, Row, Tint, Program, Close}
 use Rattle.steps.specs.declared.Read.the-variants.{At, Nothing}
-
--- the most words of a recipe: those of an Indexed of hival 255 over a Separation over CalRGB, had its program 796 words, the most that its tokens give
-abbrev pub longest : ℕ
-longest = 1084
 
 -- what one step comes to: the reply, or the colour after it
 pub data Turn : Type 0 where
@@ -34,7 +31,7 @@ abbrev pub stepped : List ℤ → Colour → Step → Colour
 stepped l v (Limit k lo hi) = limitStep k lo hi v
 stepped l v (Row m h) = rowStep m h (drop 3 l) v
 stepped l v (Tint e m) = tintStep e m (drop 3 l) (drop (3 + m) l) v
-stepped l v (Program m n) = formStep m (partOf l 3 n) v
+stepped l v (Program t m at n) = formStep t m (partOf l at n) v
 stepped l v (Close k) = v
 
 -- one step, whose words stand at the front of l
@@ -42,7 +39,7 @@ abbrev pub turnOf : List ℤ → ℕ → ℕ → Colour → ℕ → Step → Tur
 turnOf l n c v size (Limit k lo hi) = more (stepped l v (Limit k lo hi))
 turnOf l n c v size (Row m h) = more (stepped l v (Row m h))
 turnOf l n c v size (Tint e m) = more (stepped l v (Tint e m))
-turnOf l n c v size (Program m k) = more (stepped l v (Program m k))
+turnOf l n c v size (Program t m at k) = more (stepped l v (Program t m at k))
 turnOf l n c v size (Close k) = done (ended l n c k size v)
 
 -- the steps after k words that are passed over; 11 where none is read

@@ -18,7 +18,7 @@ pub fn act(l: &[i32], c: Colour, s: Step) -> Colour
         Step::Limit(k, lo, hi) => limit_step(k, lo, hi, c),
         Step::Row(m, h) => row_step(l, m, h, c),
         Step::Tint(e, m) => tint_step(l, e, m, c),
-        Step::Program(m, n) => program_step(l, m, n, c),
+        Step::Program(t, m, at, n) => program_step(l, t, m, at, n, c),
         Step::Close(_) => c,
     }
 }

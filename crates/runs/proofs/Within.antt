@@ -9,10 +9,10 @@ use Rattle.fixed.specs.Bytes.{blocks, blockAt}
 use Rattle.record.specs.Reading.{bodyAt}
 use Rattle.record.specs.declared.types.Separation.{Separation as Ink}
 use Rattle.record.specs.declared.types.Body.{Body}
-use Rattle.record.specs.declared.types.Body.the-variants.{Free, CalGray, CalRgb, Lab, Indexed, Separation, Palette, Program}
+use Rattle.record.specs.declared.types.Body.the-variants.{Free, CalGray, CalRgb, Lab, Indexed, Separation, Palette, Program, DeviceN}
 use Rattle.space.specs.Spaces.{Space, countOf}
 use Rattle.space.specs.Pages.{deviceOf, numbered, plainOf, plainAt, tintedOf, tintedAt}
-use Rattle.space.proofs.Asked.{device-some, ink-some}
+use Rattle.space.proofs.Asked.{device-some, device-n-some, ink-some}
 use Rattle.runs.specs.Runs.{isAlternate, isBase, refersTo, permitted, within, paletteSize}
 
 -- f is what a block is permitted by, and g what its space is
@@ -35,6 +35,7 @@ alternate-body (Indexed base hival) = refl
 alternate-body (Separation p) = refl
 alternate-body Palette = refl
 alternate-body Program = refl
+alternate-body (DeviceN alternate count) = refl
 
 module _ (page : List ℕ) where
   base-body : (n : ℕ) (y : Body) → isBase y ≡ ltb 0 (countOf (tintedOf page n y))
@@ -47,6 +48,7 @@ module _ (page : List ℕ) where
   base-body n (Separation p) = sym (ink-some page n p)
   base-body n Palette = refl
   base-body n Program = refl
+  base-body n (DeviceN alternate count) = sym (device-n-some page n alternate count)
 
   pub alternate-permits : (n : ℕ) → refersTo page isAlternate n ≡ ltb 0 (countOf (plainAt page n))
   alternate-permits = permits page isAlternate plainOf alternate-body
@@ -70,6 +72,10 @@ module _ (page : List ℕ) where
     pub separation-permits : (p : Ink) → y ≡ Separation p → m ≡ within page y → ltb 0 m ≡ permitted page y
     unfolding within permitted
     separation-permits p g e = ap (ltb 0) (e ∙ ap (within page) g) ∙ sym (alternate-permits (p .alternate)) ∙ sym (ap (permitted page) g)
+
+    pub device-n-permits : (alternate count : ℕ) → y ≡ DeviceN alternate count → m ≡ within page y → ltb 0 m ≡ permitted page y
+    unfolding within permitted
+    device-n-permits alternate count g e = ap (ltb 0) (e ∙ ap (within page) g) ∙ sym (alternate-permits alternate) ∙ sym (ap (permitted page) g)
 
     -- and the size of the palette is that of the Indexed body
     pub size-within : (base hival : ℕ) {size : ℕ} → y ≡ Indexed base hival → m ≡ within page y → size ≡ paletteSize m hival

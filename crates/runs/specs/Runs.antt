@@ -10,12 +10,15 @@ use Rattle.record.specs.Reading.{bodyAt}
 use Rattle.record.specs.Rules.{isPalette, paletteEnds, entriesEnd}
 use Rattle.record.specs.declared.types.Separation.{Separation as Ink}
 use Rattle.record.specs.declared.types.Body.{Body}
-use Rattle.record.specs.declared.types.Body.the-variants.{Free, CalGray, CalRgb, Lab, Indexed, Separation, Palette, Program}
+use Rattle.record.specs.declared.types.Body.the-variants.{Free, CalGray, CalRgb, Lab, Indexed, Separation, Palette, Program, DeviceN}
+use Rattle.form.specs.Steps.{takenBy}
+use Rattle.form.specs.declared.Tints.{Tints}
+use Rattle.form.specs.declared.Tints.the-variants.{One, Inks}
 use Rattle.calculator.specs.Calculator.{refusalOf, programRun, runText, filledRun}
 use Rattle.space.specs.Spaces.{countOf}
 use Rattle.space.specs.Pages.{plainAt, tintedAt}
 
--- 6: a reference to no block of the page, or to a kind not permitted. A Separation's alternate is a device space, CalGray, CalRGB or Lab
+-- 6: a reference to no block of the page, or to a kind not permitted. The alternate of a Separation or a DeviceN is a device space, CalGray, CalRGB or Lab
 abbrev pub isAlternate : Body → Bool
 isAlternate Free = false
 isAlternate (CalGray g) = true
@@ -25,8 +28,9 @@ isAlternate (Indexed base hival) = false
 isAlternate (Separation p) = false
 isAlternate Palette = false
 isAlternate Program = false
+isAlternate (DeviceN alternate count) = false
 
--- an Indexed base may be a Separation too
+-- an Indexed base may be a Separation or a DeviceN too
 abbrev pub isBase : Body → Bool
 isBase Free = false
 isBase (CalGray g) = true
@@ -36,6 +40,7 @@ isBase (Indexed base hival) = false
 isBase (Separation p) = true
 isBase Palette = false
 isBase Program = false
+isBase (DeviceN alternate count) = true
 
 -- a device code, or a block that f permits; a block that the page does not have is free
 unfoldable pub refersTo : List ℕ → (Body → Bool) → ℕ → Bool
@@ -50,6 +55,7 @@ permitted page (Indexed base hival) = refersTo page isBase base
 permitted page (Separation p) = refersTo page isAlternate (p .alternate)
 permitted page Palette = true
 permitted page Program = true
+permitted page (DeviceN alternate count) = refersTo page isAlternate alternate
 
 -- the components of the space that a body refers to, none where it may not
 unfoldable pub within : List ℕ → Body → ℕ
@@ -61,6 +67,7 @@ within page (Indexed base hival) = countOf (tintedAt page base)
 within page (Separation p) = countOf (plainAt page (p .alternate))
 within page Palette = 0
 within page Program = 0
+within page (DeviceN alternate count) = countOf (plainAt page alternate)
 
 -- 7, the palette run of an Indexed block: m (hival + 1) bytes, m being the base's count, in the blocks straight after it, as few as hold them
 abbrev pub paletteSize : ℕ → ℕ → ℕ
@@ -78,7 +85,7 @@ runFilled page i size =
     palettes page (i + 1) (i + 1 + runLength size)
     && paletteEnds (blockAt page (i + runLength size)) (size - room * (runLength size - 1))
 
--- whether a body is a Separation with a program
+-- whether a body has a program: a DeviceN, and a Separation with exponent 0
 abbrev pub programmed : Body → Bool
 programmed Free = false
 programmed (CalGray g) = false
@@ -88,15 +95,28 @@ programmed (Indexed base hival) = false
 programmed (Separation p) = eqb (p .exponent) 0
 programmed Palette = false
 programmed Program = false
+programmed (DeviceN alternate count) = true
 
--- the program after block i, over an alternate of m components: 7 for a run that is missing or ill filled; then 16 and 17, of its text
-unfoldable pub runFault : List ℕ → ℕ → ℕ → ℕ
-runFault page i m =
-    unless (filledRun (programRun page i) (runText page i (programRun page i))) 7 (refusalOf m (runText page i (programRun page i)))
+-- the tints that its program takes: as many as it has names, or one
+abbrev pub tintsOf : Body → Tints
+tintsOf Free = One
+tintsOf (CalGray g) = One
+tintsOf (CalRgb g) = One
+tintsOf (Lab g) = One
+tintsOf (Indexed base hival) = One
+tintsOf (Separation p) = One
+tintsOf Palette = One
+tintsOf Program = One
+tintsOf (DeviceN alternate count) = Inks count
+
+-- the program after block i, which takes t values, over an alternate of m components: 7 for a run that is missing or ill filled; then 16 and 17, of its text
+unfoldable pub runFault : List ℕ → ℕ → ℕ → ℕ → ℕ
+runFault page i t m =
+    unless (filledRun (programRun page i) (runText page i (programRun page i))) 7 (refusalOf t m (runText page i (programRun page i)))
 
 -- of block i, whose body is y: 0 where it has no program
 unfoldable pub programFault : List ℕ → ℕ → Body → ℕ
-programFault page i y = cond (programmed y) (runFault page i (within page y)) 0
+programFault page i y = cond (programmed y) (runFault page i (takenBy (tintsOf y)) (within page y)) 0
 
 -- 7, a Separation: how many entries of C0 and C1 are used, the alternate's count m, and none where a program stands for them
 unfoldable pub usedEntries : Ink → ℕ → ℕ
@@ -116,6 +136,7 @@ paletteClaimed page (Indexed base hival) claimed = runLength (paletteSize (withi
 paletteClaimed page (Separation p) claimed = claimed - 1
 paletteClaimed page Palette claimed = claimed - 1
 paletteClaimed page Program claimed = claimed - 1
+paletteClaimed page (DeviceN alternate count) claimed = claimed - 1
 
 -- the same past block i, which may be a Separation with a program: that claims its run
 unfoldable pub claimedAfter : List ℕ → ℕ → Body → ℕ → ℕ
@@ -135,3 +156,4 @@ wellFilled page i claimed (Indexed base hival) = runFilled page i (paletteSize (
 wellFilled page i claimed (Separation p) = unusedZero p (usedEntries p (within page (Separation p)))
 wellFilled page i claimed Palette = ltb 0 claimed
 wellFilled page i claimed Program = ltb 0 claimed
+wellFilled page i claimed (DeviceN alternate count) = true

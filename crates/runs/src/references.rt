@@ -23,6 +23,10 @@ pub fn count_within(page: &[u8], y: Body) -> u32
         Body::Separation(p) => count(plain_at(page, p.alternate)),
         Body::Palette => 0,
         Body::Program => 0,
+        Body::DeviceN {
+            alternate,
+            count: _,
+        } => count(plain_at(page, alternate)),
     }
 }
 
@@ -39,5 +43,9 @@ pub fn permits(y: Body, m: u32) -> bool
         Body::Separation(_) => 0 < m,
         Body::Palette => true,
         Body::Program => true,
+        Body::DeviceN {
+            alternate: _,
+            count: _,
+        } => 0 < m,
     }
 }

@@ -4,11 +4,13 @@ ghost use mathlib.Core.List.{List};
 ghost use Prim.Native.Nat.{ℕ, _-_, _<_, _≤_};
 ghost use Rattle.fixed.specs.Bytes.{blocks};
 ghost use Rattle.fixed.specs.Values.{places};
-ghost use Rattle.runs.specs.Runs.{within, paletteSize, runLength, palettes, runFilled, programmed, runFault, programFault, usedEntries, unusedZero, paletteClaimed, claimedAfter, wellFilled};
+ghost use Rattle.form.specs.Steps.{takenBy};
+ghost use Rattle.runs.specs.Runs.{within, paletteSize, runLength, palettes, runFilled, programmed, tintsOf, runFault, programFault, usedEntries, unusedZero, paletteClaimed, claimedAfter, wellFilled};
 ghost use Rattle.space.specs.Pages.{entries};
 use calculator::is_filled_run;
 use calculator::judge_run;
 use calculator::program_run;
+use form::nearest_count;
 use record::Body;
 use record::ROOM;
 use record::Separation;
@@ -64,7 +66,7 @@ fn run_filled(page: &[u8], i: u32, size: u32) -> bool
     all_palettes(page, i + 1, i + 1 + n) & palette_ends(page, i + n, used)
 }
 
-// Whether a body is a Separation with a program.
+// Whether a body has a program.
 fn is_programmed(y: Body) -> bool
     ensures { λ r. ⌜ r ≡ programmed y ⌝ }
 {
@@ -77,18 +79,42 @@ fn is_programmed(y: Body) -> bool
         Body::Separation(p) => p.exponent == 0,
         Body::Palette => false,
         Body::Program => false,
+        Body::DeviceN {
+            alternate: _,
+            count: _,
+        } => true,
     }
 }
 
-// What the program after block i, over an alternate of m components, is refused with: 7 for its run, then 16 and 17 for its text; or 0.
-fn run_fault(page: &[u8], i: u32, m: u32) -> u32
+// How many values the program of a body takes: as many as it has names, or one.
+fn taken_of(y: Body) -> u32
+    ensures { λ r. ⌜ r ≡ takenBy (tintsOf y) ⌝ }
+{
+    match y {
+        Body::Free => 1,
+        Body::CalGray(_) => 1,
+        Body::CalRgb(_) => 1,
+        Body::Lab(_) => 1,
+        Body::Indexed { base: _, hival: _ } => 1,
+        Body::Separation(_) => 1,
+        Body::Palette => 1,
+        Body::Program => 1,
+        Body::DeviceN {
+            alternate: _,
+            count,
+        } => nearest_count(count as u32),
+    }
+}
+
+// What the program after block i, which takes t values, over an alternate of m components, is refused with: 7 for its run, then 16 and 17 for its text; or 0.
+fn run_fault(page: &[u8], i: u32, t: u32, m: u32) -> u32
     requires { ⌜ i < blocks ⌝ }
-    ensures { λ r. ⌜ r ≡ runFault (now (page .entry)) i m ⌝ }
+    ensures { λ r. ⌜ r ≡ runFault (now (page .entry)) i t m ⌝ }
 {
     let n = i as u16;
     let run = program_run(page, n);
     if is_filled_run(page, n, run) {
-        return judge_run(page, n, run, m as usize);
+        return judge_run(page, n, run, t as usize, m as usize);
     }
     7
 }
@@ -99,7 +125,7 @@ pub fn program_fault(page: &[u8], i: u32, y: Body, m: u32) -> u32
     ensures { λ r. ⌜ r ≡ programFault (now (page .entry)) i y ⌝ }
 {
     if is_programmed(y) {
-        return run_fault(page, i, m);
+        return run_fault(page, i, taken_of(y), m);
     }
     0
 }
@@ -134,6 +160,10 @@ fn palette_claimed(y: Body, m: u32, claimed: u32) -> u32
         Body::Separation(_) => less(claimed),
         Body::Palette => less(claimed),
         Body::Program => less(claimed),
+        Body::DeviceN {
+            alternate: _,
+            count: _,
+        } => less(claimed),
     }
 }
 
@@ -163,5 +193,9 @@ pub fn is_well_filled(page: &[u8], i: u32, claimed: u32, y: Body, m: u32) -> boo
         Body::Separation(p) => unused_zero(p, used_entries(p, m)),
         Body::Palette => 0 < claimed,
         Body::Program => 0 < claimed,
+        Body::DeviceN {
+            alternate: _,
+            count: _,
+        } => true,
     }
 }

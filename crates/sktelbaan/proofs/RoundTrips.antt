@@ -22,9 +22,9 @@ use Rattle.layout.proofs.Held.{length-padded}
 use Rattle.record.specs.Fits.{Fits}
 use Rattle.record.specs.Layout.{fields, kindOf, blockOf}
 use Rattle.record.specs.Reading.{recordAt}
-use Rattle.record.specs.Rules.{nameFits, wellNamed, wellShaped, lawful, supported, refers, faultOf}
+use Rattle.record.specs.Rules.{nameFits, namesFit, wellNamed, wellShaped, lawful, lawfulIn, supported, refers, faultOf}
 use Rattle.record.specs.declared.types.Body.{Body}
-use Rattle.record.specs.declared.types.Body.the-variants.{Free, CalGray, CalRgb, Lab, Indexed, Separation, Palette, Program}
+use Rattle.record.specs.declared.types.Body.the-variants.{Free, CalGray, CalRgb, Lab, Indexed, Separation, Palette, Program, DeviceN}
 use Rattle.record.specs.declared.types.Record.{Record}
 use Rattle.block.specs.Single.{readNumber}
 use Rattle.block.proofs.Blocks.{fits-at}
@@ -67,6 +67,7 @@ body-back own (Separation p) s h = λ i.
     })
 body-back own Palette s h = refl
 body-back own Program s h = refl
+body-back own (DeviceN alternate count) s h = λ i. DeviceN (two-kept alternate (h .1 .1 .1 .0) i) (one-kept count (h .1 .1 .1 .1 .0) i)
 
 -- a record's numbers and bytes are those of that record
 record-back : (r : Record) → Fits r → recordOf (numbersOf r) (r .bytes) ≡ r
@@ -79,7 +80,7 @@ record-back r f = λ i.
     }
 
 -- past those that a body names, its numbers are zero
-body-zeros : (own : ℕ) (y : Body) → (leb (kindOf y) 7 && zeroFrom (headed own y) (namedCount y)) ≡ true
+body-zeros : (own : ℕ) (y : Body) → (leb (kindOf y) 8 && zeroFrom (headed own y) (namedCount y)) ≡ true
 unfolding zeroFrom allFrom
 body-zeros own Free = refl
 body-zeros own (CalGray g) = refl
@@ -89,6 +90,7 @@ body-zeros own (Indexed base hival) = refl
 body-zeros own (Separation p) = refl
 body-zeros own Palette = refl
 body-zeros own Program = refl
+body-zeros own (DeviceN alternate count) = refl
 
 -- so they make a record
 record-like : (r : Record) → Fits r → recordLike (numbersOf r) ≡ true
@@ -102,7 +104,7 @@ number-back : (z : ℤ) (top : ℕ) → top ≤ 4294967295 → min (smallOf z) t
 number-back (pos n) top h l = let e : min n top ≡ n = omega arith in ap pos e
 number-back (negsuc n) top h l = absurd (omega arith)
 
-kind-back : (z : ℤ) → smallOf z ≤ 7 → pos (smallOf z) ≡ z
+kind-back : (z : ℤ) → smallOf z ≤ 8 → pos (smallOf z) ≡ z
 kind-back (pos n) l = refl
 kind-back (negsuc n) l = absurd (omega arith)
 
@@ -133,13 +135,13 @@ record Faultless (r : Record) : Type 0 where
   references : refers (r .body) ≡ true
 
 faultless : (r : Record) → faultOf r ≡ 0 → Faultless r
-unfolding faultOf
+unfolding faultOf lawfulIn
 faultless r e =
     let a = passed (wellShaped r) _ 3 (λ z. omega arith) e in
-    let b = passed (lawful (r .body)) _ 4 (λ z. omega arith) (a .1) in
+    let b = passed (lawfulIn (r .bytes) (r .body)) _ 4 (λ z. omega arith) (a .1) in
     let c = passed (supported (r .body)) _ 5 (λ z. omega arith) (b .1) in
     let d = passed (refers (r .body)) _ 6 (λ z. omega arith) (c .1) in
-    record { shapes = a .0; laws = b .0; supports = c .0; references = d .0 }
+    record { shapes = a .0; laws = and-left (lawful (r .body)) _ (b .0); supports = c .0; references = d .0 }
 
 module _ (v : List ℤ) (s : List ℕ) (p : Passed v s) where
   -- numbers 2 on, n of them
@@ -178,9 +180,9 @@ module _ (v : List ℤ) (s : List ℕ) (p : Passed v s) where
   made = recordOf v s
 
   -- the numbers that the body names are those given
-  named-back : (k : ℕ) → k ≤ 7 → lawful (bodyOf k v) ≡ true → supported (bodyOf k v) ≡ true → refers (bodyOf k v) ≡ true → wellNamed (bodyOf k v) (padded 504 s) ≡ true
+  named-back : (k : ℕ) → k ≤ 8 → lawful (bodyOf k v) ≡ true → supported (bodyOf k v) ≡ true → refers (bodyOf k v) ≡ true → wellNamed (bodyOf k v) (padded 504 s) ≡ true
       → bodyNumbers (bodyOf k v) ≡ from2 (length (bodyNumbers (bodyOf k v)))
-  unfolding bodyOf listed lawful supported refers wellNamed nameFits
+  unfolding bodyOf listed lawful supported refers wellNamed nameFits namesFit
   named-back zero h l t r m = refl
   named-back (suc zero) h l t r m = refl
   named-back (suc (suc zero)) h l t r m = refl
@@ -196,9 +198,13 @@ module _ (v : List ℤ) (s : List ℕ) (p : Passed v s) where
       ∷ value v 5 ∷ value v 6 ∷ value v 7 ∷ value v 8 ∷ value v 9 ∷ value v 10 ∷ value v 11 ∷ value v 12 ∷ []
   named-back (suc (suc (suc (suc (suc (suc zero)))))) h l t r m = refl
   named-back (suc (suc (suc (suc (suc (suc (suc zero))))))) h l t r m = refl
-  named-back (suc (suc (suc (suc (suc (suc (suc (suc k)))))))) h l t r m = absurd (omega arith)
+  named-back (suc (suc (suc (suc (suc (suc (suc (suc zero)))))))) h l t r m = λ i.
+      number-back (value v 2) 65535 (omega arith) (reference-small _ r) i
+      ∷ number-back (value v 3) 255 (omega arith) (omega (arith, leb-true (oneOf v 3) 8 (and-right (leb 1 (oneOf v 3)) _ (and-left _ _ m)))) i
+      ∷ []
+  named-back (suc (suc (suc (suc (suc (suc (suc (suc (suc k))))))))) h l t r m = absurd (omega arith)
 
-  kind-of : (k : ℕ) → k ≤ 7 → kindOf (bodyOf k v) ≡ k
+  kind-of : (k : ℕ) → k ≤ 8 → kindOf (bodyOf k v) ≡ k
   unfolding bodyOf
   kind-of zero h = refl
   kind-of (suc zero) h = refl
@@ -208,7 +214,8 @@ module _ (v : List ℤ) (s : List ℕ) (p : Passed v s) where
   kind-of (suc (suc (suc (suc (suc zero))))) h = refl
   kind-of (suc (suc (suc (suc (suc (suc zero)))))) h = refl
   kind-of (suc (suc (suc (suc (suc (suc (suc zero))))))) h = refl
-  kind-of (suc (suc (suc (suc (suc (suc (suc (suc k)))))))) h = absurd (omega arith)
+  kind-of (suc (suc (suc (suc (suc (suc (suc (suc zero)))))))) h = refl
+  kind-of (suc (suc (suc (suc (suc (suc (suc (suc (suc k))))))))) h = absurd (omega arith)
 
   few-named : (y : Body) → length (bodyNumbers y) ≤ 18
   few-named Free = omega arith
@@ -219,6 +226,7 @@ module _ (v : List ℤ) (s : List ℕ) (p : Passed v s) where
   few-named (Separation p) = omega arith
   few-named Palette = omega arith
   few-named Program = omega arith
+  few-named (DeviceN alternate count) = omega arith
 
   -- numbers that make a record, of which nothing is refused, are the numbers of that record
   numbers-back : recordLike v ≡ true → faultOf made ≡ 0 → numbersOf made ≡ v
@@ -228,14 +236,14 @@ module _ (v : List ℤ) (s : List ℕ) (p : Passed v s) where
       let k = small v 1 in
       let y = bodyOf k v in
       let n = length (bodyNumbers y) in
-      let wellLaid : k ≤ 7 = leb-true k 7 (and-left _ _ like) in
+      let wellLaid : k ≤ 8 = leb-true k 8 (and-left _ _ like) in
       let below : twoOf v 0 < blocks = ltb-true (twoOf v 0) blocks (and-left _ _ (f .shapes)) in
       let own : pos (twoOf v 0) ≡ value v 0 = number-back (value v 0) 65535 (omega arith) (omega arith) in
       let kind : pos (kindOf y) ≡ value v 1 = ap pos (kind-of k wellLaid) ∙ kind-back (value v 1) wellLaid in
       let name = and-left _ _ (and-right (ltb (twoOf v 0) blocks) _ (f .shapes)) in
       let body : bodyNumbers y ≡ from2 n = named-back k wellLaid (f .laws) (f .supports) (f .references) name in
       (λ i. own i ∷ kind i ∷ (body i ++ replicate (18 - n) (pos 0)))
-      ∙ all-numbers n (few-named y) (and-right (leb k 7) _ like)
+      ∙ all-numbers n (few-named y) (and-right (leb k 8) _ like)
 
   one-small : (k : ℕ) → oneOf v k < 256
   one-small k = omega arith
@@ -243,7 +251,7 @@ module _ (v : List ℤ) (s : List ℕ) (p : Passed v s) where
   two-small : (k : ℕ) → twoOf v k < 65536
   two-small k = omega arith
 
-  in-ranges : (own k : ℕ) → own < 65536 → k ≤ 7 → FieldsFit (fields (record { own = own; body = bodyOf k v; bytes = padded 504 s }))
+  in-ranges : (own k : ℕ) → own < 65536 → k ≤ 8 → FieldsFit (fields (record { own = own; body = bodyOf k v; bytes = padded 504 s }))
   unfolding bodyOf
   in-ranges own zero o h = (omega arith, (omega arith, (o, (tt, tt))))
   in-ranges own (suc zero) o h = (omega arith, (omega arith, (o, (p .signed 2, (p .signed 3, (p .signed 4, (p .signed 5, (p .signed 6, (p .signed 7, (p .signed 8, (tt, tt)))))))))))
@@ -253,10 +261,11 @@ module _ (v : List ℤ) (s : List ℕ) (p : Passed v s) where
   in-ranges own (suc (suc (suc (suc (suc zero))))) o h = (omega arith, (omega arith, (o, (two-small 2, (one-small 3, (one-small 4, (tt, (p .signed 5, (p .signed 6, (p .signed 7, (p .signed 8, (p .signed 9, (p .signed 10, (p .signed 11, (p .signed 12, (tt, tt))))))))))))))))
   in-ranges own (suc (suc (suc (suc (suc (suc zero)))))) o h = (omega arith, (omega arith, (o, (tt, (tt, tt)))))
   in-ranges own (suc (suc (suc (suc (suc (suc (suc zero))))))) o h = (omega arith, (omega arith, (o, (tt, (tt, tt)))))
-  in-ranges own (suc (suc (suc (suc (suc (suc (suc (suc k)))))))) o h = absurd (omega arith)
+  in-ranges own (suc (suc (suc (suc (suc (suc (suc (suc zero)))))))) o h = (omega arith, (omega arith, (o, (two-small 2, (one-small 3, (omega arith, (tt, (tt, tt))))))))
+  in-ranges own (suc (suc (suc (suc (suc (suc (suc (suc (suc k))))))))) o h = absurd (omega arith)
 
   -- the record that numbers make has what the type of records says
-  made-fits : small v 1 ≤ 7 → Fits made
+  made-fits : small v 1 ≤ 8 → Fits made
   unfolding recordOf
   made-fits h = record { room = length-padded 504 s; numbers = in-ranges (twoOf v 0) (small v 1) (two-small 0) h }
 
@@ -267,7 +276,7 @@ module _ (v : List ℤ) (s : List ℕ) (p : Passed v s) where
   written d e =
       let long = passed (eqb (length d) 512) _ 10 (λ z. omega arith) e in
       let like = passed (recordLike v) _ 3 (λ z. omega arith) (long .1) in
-      let fits = made-fits (leb-true _ 7 (and-left _ _ (like .0))) in
+      let fits = made-fits (leb-true _ 8 (and-left _ _ (like .0))) in
       let b = blockOf made in
       let read = read-of-write made fits (like .1) in
       let none : readNumber b ≡ 0 = read .0 in

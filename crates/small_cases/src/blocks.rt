@@ -73,6 +73,13 @@ fn say_lab(g: Lab) {
     say_next(range.bmax);
 }
 
+// The first n of the bytes.
+fn say_first(bytes: &[u8], n: usize) {
+    if n <= bytes.len() {
+        say_dotted(&bytes[..n]);
+    }
+}
+
 fn say_separation(p: Separation, bytes: &[u8]) {
     let c0 = p.c0;
     let c1 = p.c1;
@@ -83,9 +90,15 @@ fn say_separation(p: Separation, bytes: &[u8]) {
     say_four(c0);
     say_four(c1);
     say(b" x");
-    if 128 <= bytes.len() {
-        say_dotted(&bytes[..128]);
-    }
+    say_first(bytes, 128);
+}
+
+fn say_device_n(alternate: u16, count: u8, bytes: &[u8]) {
+    say(b" 8");
+    say_unsigned(alternate as u32);
+    say_unsigned(count as u32);
+    say(b" x");
+    say_first(bytes, 500);
 }
 
 fn say_body(y: Body, bytes: &[u8]) {
@@ -108,6 +121,7 @@ fn say_body(y: Body, bytes: &[u8]) {
             say(b" 7 x");
             say_dotted(bytes);
         }
+        Body::DeviceN { alternate, count } => say_device_n(alternate, count, bytes),
     }
 }
 
@@ -248,6 +262,10 @@ fn body_of(v: [i32; 24]) -> Body {
         5 => separation_of(v),
         6 => Body::Palette,
         7 => Body::Program,
+        8 => Body::DeviceN {
+            alternate: short(v[3]),
+            count: small(v[4]),
+        },
         _ => Body::Free,
     }
 }

@@ -1,7 +1,8 @@
 -- The ends of the ranges of a plain space's components: a Lab's by its record, 0 to 1 for all others; and those that a table's entries have.
 use mathlib.Core.Path.{_≡_, refl, ap, sym, _∙_}
 use mathlib.Core.Bool.{true, false, true≢false}
-use mathlib.Core.List.{List, [], _∷_}
+use mathlib.Core.List.{List}
+use lib.ListN.{set, replicate}
 use Prim.Native.Nat.{ℕ, _%_, _<_}
 use lib.IntN.{ℤ, pos}
 use Rattle.fixed.specs.Numbers.{paletteValue}
@@ -33,7 +34,7 @@ module _ (q : Ranges) where
   whatever EveryInk = (refl, refl, refl)
 
   pub lab-ends : (c : Closing) → isLab c ≡ true
-      → ((pos 0 ∷ q .amin ∷ q .bmin ∷ q .bmin ∷ []) ≡ listed (lowOf (plainIn c q)) places) × ((pos 100000000 ∷ q .amax ∷ q .bmax ∷ q .bmax ∷ []) ≡ listed (highOf (plainIn c q)) places)
+      → (set (set (replicate places (q .bmin)) 0 (pos 0)) 1 (q .amin) ≡ listed (lowOf (plainIn c q)) places) × (set (set (replicate places (q .bmax)) 0 (pos 100000000)) 1 (q .amax) ≡ listed (highOf (plainIn c q)) places)
   unfolding listed
   lab-ends Nothing e = never e
   lab-ends Gray e = never e
@@ -46,7 +47,7 @@ module _ (q : Ranges) where
   lab-ends EveryInk e = never e
 
   pub unit-ends : (c : Closing) → isLab c ≡ false
-      → ((pos 0 ∷ pos 0 ∷ pos 0 ∷ pos 0 ∷ []) ≡ listed (lowOf (plainIn c q)) places) × ((pos 1000000 ∷ pos 1000000 ∷ pos 1000000 ∷ pos 1000000 ∷ []) ≡ listed (highOf (plainIn c q)) places)
+      → (replicate places (pos 0) ≡ listed (lowOf (plainIn c q)) places) × (replicate places (pos 1000000) ≡ listed (highOf (plainIn c q)) places)
   unfolding listed
   unit-ends Nothing e = (refl, refl)
   unit-ends Gray e = (refl, refl)

@@ -6,53 +6,61 @@ use Prim.Native.Nat.{ℕ, _≤_, _<_}
 use native.Mathlib.Omega.{arith}
 use lib.IntN.{ℤ}
 use lib.Dec.{eqb, ltb}
+use Rattle.fixed.specs.Values.{widest}
 use Rattle.fixed.specs.Bytes.{blocks, grayCode, rgbCode, cmykCode, blockAt}
 use Rattle.fixed.proofs.Decide.{cond-ind}
-use Rattle.cie.specs.declared.Closing.the-variants.{Nothing, Gray, Rgb, Cmyk, NoMark, EveryInk}
-use Rattle.record.specs.Reading.{bodyAt, theNone, theAll, nameIs}
+use Rattle.cie.specs.declared.Closing.the-variants.{Nothing, Gray, Rgb, Cmyk, EveryInk}
+use Rattle.record.specs.Reading.{bodyAt, namesAt, theNone, theAll, inkIs, allNone}
 use Rattle.record.specs.declared.types.Ranges.{Ranges}
 use Rattle.record.specs.declared.types.Separation.{Separation as Ink}
 use Rattle.record.specs.declared.types.Body.{Body}
-use Rattle.record.specs.declared.types.Body.the-variants.{Free, CalGray, CalRgb, Lab, Indexed as IndexedBody, Separation as SeparationBody, Palette, Program as ProgramBody}
+use Rattle.record.specs.declared.types.Body.the-variants.{Free, CalGray, CalRgb, Lab, Indexed as IndexedBody, Separation as SeparationBody, Palette, Program as ProgramBody, DeviceN}
 use Rattle.stack.specs.Programs.{Code}
-use Rattle.space.specs.Spaces.{Space, none, gray, rgb, cmyk, calGray, calRgb, lab, noMark, everyInk, separation, calculated, indexed}
-use Rattle.space.specs.Pages.{deviceOf, numbered, plainOf, plainAt, separationOver, calculatedOver, inkOf, tintedOf, tintedAt, indexedOver, spaceOf, spaceAt}
+use Rattle.form.specs.declared.Tints.{Tints}
+use Rattle.form.specs.declared.Tints.the-variants.{One, Inks}
+use Rattle.space.specs.Spaces.{Space, none, gray, rgb, cmyk, calGray, calRgb, lab, noMark, everyInk, separation, calculated, indexed, countOf}
+use Rattle.space.specs.Pages.{deviceOf, numbered, plainOf, plainAt, separationOver, calculatedOver, inkOf, deviceNOf, tintedOf, tintedAt, indexedOver, spaceOf, spaceAt}
 use Rattle.space.specs.WellMade.{rankOf}
-use Rattle.space.specs.Levels.{plainIn, spaceIn, rankIn, noRanges, nothing, isNamed, inkLevel, levelOf, deviceClosing, levelAt}
+use Rattle.space.specs.Levels.{plainIn, spaceIn, rankIn, noRanges, nothing, isNamed, inkLevel, deviceNLevel, levelOf, deviceClosing, levelAt}
 use Rattle.space.specs.declared.nesting.Level.{Level}
-use Rattle.space.specs.declared.nesting.Level.the-variants.{Plain, Separation, Program, Indexed}
+use Rattle.space.specs.declared.nesting.Level.the-variants.{Plain, Blank, Separation, Program, Indexed}
 
 -- ---- What is read
 
 -- what is left of a level that an Indexed refers to, and a Separation
 abbrev pub tinted : Level → Level
 tinted (Plain c q) = Plain c q
+tinted (Blank i) = Blank i
 tinted (Separation p) = Separation p
-tinted (Program n alternate) = Program n alternate
+tinted (Program n alternate i) = Program n alternate i
 tinted (Indexed n base hival) = nothing
 
 abbrev pub plain : Level → Level
 plain (Plain c q) = cond (isNamed c) nothing (Plain c q)
+plain (Blank i) = nothing
 plain (Separation p) = nothing
-plain (Program n alternate) = nothing
+plain (Program n alternate i) = nothing
 plain (Indexed n base hival) = nothing
 
 pub rank-most : (l : Level) → rankIn l ≤ 2
 rank-most (Plain c q) = omega arith
+rank-most (Blank i) = omega arith
 rank-most (Separation p) = omega arith
-rank-most (Program n alternate) = omega arith
+rank-most (Program n alternate i) = omega arith
 rank-most (Indexed n base hival) = omega arith
 
 tinted-rank : (l : Level) → rankIn (tinted l) < 2
 tinted-rank (Plain c q) = omega arith
+tinted-rank (Blank i) = omega arith
 tinted-rank (Separation p) = omega arith
-tinted-rank (Program n alternate) = omega arith
+tinted-rank (Program n alternate i) = omega arith
 tinted-rank (Indexed n base hival) = omega arith
 
 plain-falls : (l : Level) → rankIn (plain l) < 1
 plain-falls (Plain c q) = cond-ind (λ (l : Level). rankIn l < 1) (isNamed c) (λ _. omega arith) (λ _. omega arith)
+plain-falls (Blank i) = omega arith
 plain-falls (Separation p) = omega arith
-plain-falls (Program n alternate) = omega arith
+plain-falls (Program n alternate i) = omega arith
 plain-falls (Indexed n base hival) = omega arith
 
 -- a device space
@@ -93,9 +101,9 @@ module _ (page : List ℕ) (n : ℕ) where
   module _ (p : Ink) where
     ink-is : spaceIn page (inkLevel page n p) ≡ inkOf page n p
     unfolding spaceIn inkLevel inkOf
-    ink-is = by-names (nameIs (blockAt page n) theNone) (nameIs (blockAt page n) theAll) (eqb (p .exponent) 0)
+    ink-is = by-names (inkIs (blockAt page n) theNone) (inkIs (blockAt page n) theAll) (eqb (p .exponent) 0)
       where
-        by-names : (a b e : Bool) → spaceIn page (cond a (Plain NoMark noRanges) (cond b (Plain EveryInk noRanges) (cond e (Program n (p .alternate)) (Separation p)))) ≡ cond a noMark (cond b everyInk (cond e (calculatedOver page n (plainAt page (p .alternate))) (separationOver p (plainAt page (p .alternate)))))
+        by-names : (a b e : Bool) → spaceIn page (cond a (Blank One) (cond b (Plain EveryInk noRanges) (cond e (Program n (p .alternate) One) (Separation p)))) ≡ cond a (noMark One) (cond b everyInk (cond e (calculatedOver page n One (plainAt page (p .alternate))) (separationOver p (plainAt page (p .alternate)))))
         by-names true b e = refl
         by-names false true e = refl
         by-names false false true = refl
@@ -103,9 +111,9 @@ module _ (page : List ℕ) (n : ℕ) where
 
     ink-tinted : tinted (inkLevel page n p) ≡ inkLevel page n p
     unfolding inkLevel
-    ink-tinted = by-names (nameIs (blockAt page n) theNone) (nameIs (blockAt page n) theAll) (eqb (p .exponent) 0)
+    ink-tinted = by-names (inkIs (blockAt page n) theNone) (inkIs (blockAt page n) theAll) (eqb (p .exponent) 0)
       where
-        by-names : (a b e : Bool) → tinted (cond a (Plain NoMark noRanges) (cond b (Plain EveryInk noRanges) (cond e (Program n (p .alternate)) (Separation p)))) ≡ cond a (Plain NoMark noRanges) (cond b (Plain EveryInk noRanges) (cond e (Program n (p .alternate)) (Separation p)))
+        by-names : (a b e : Bool) → tinted (cond a (Blank One) (cond b (Plain EveryInk noRanges) (cond e (Program n (p .alternate) One) (Separation p)))) ≡ cond a (Blank One) (cond b (Plain EveryInk noRanges) (cond e (Program n (p .alternate) One) (Separation p)))
         by-names true b e = refl
         by-names false true e = refl
         by-names false false true = refl
@@ -113,13 +121,39 @@ module _ (page : List ℕ) (n : ℕ) where
 
     ink-plain : plain (inkLevel page n p) ≡ nothing
     unfolding inkLevel
-    ink-plain = by-names (nameIs (blockAt page n) theNone) (nameIs (blockAt page n) theAll) (eqb (p .exponent) 0)
+    ink-plain = by-names (inkIs (blockAt page n) theNone) (inkIs (blockAt page n) theAll) (eqb (p .exponent) 0)
       where
-        by-names : (a b e : Bool) → plain (cond a (Plain NoMark noRanges) (cond b (Plain EveryInk noRanges) (cond e (Program n (p .alternate)) (Separation p)))) ≡ nothing
+        by-names : (a b e : Bool) → plain (cond a (Blank One) (cond b (Plain EveryInk noRanges) (cond e (Program n (p .alternate) One) (Separation p)))) ≡ nothing
         by-names true b e = refl
         by-names false true e = refl
         by-names false false true = refl
         by-names false false false = refl
+
+  -- a DeviceN by its names
+  module _ (alternate count : ℕ) where
+    device-n-is : spaceIn page (deviceNLevel page n alternate count) ≡ deviceNOf page n alternate count
+    unfolding spaceIn deviceNLevel deviceNOf
+    device-n-is = by-none (allNone (namesAt (blockAt page n)) count)
+      where
+        by-none : (a : Bool) → spaceIn page (cond a (Blank (Inks count)) (Program n alternate (Inks count))) ≡ cond a (noMark (Inks count)) (calculatedOver page n (Inks count) (plainAt page alternate))
+        by-none true = refl
+        by-none false = refl
+
+    device-n-tinted : tinted (deviceNLevel page n alternate count) ≡ deviceNLevel page n alternate count
+    unfolding deviceNLevel
+    device-n-tinted = by-none (allNone (namesAt (blockAt page n)) count)
+      where
+        by-none : (a : Bool) → tinted (cond a (Blank (Inks count)) (Program n alternate (Inks count))) ≡ cond a (Blank (Inks count)) (Program n alternate (Inks count))
+        by-none true = refl
+        by-none false = refl
+
+    device-n-plain : plain (deviceNLevel page n alternate count) ≡ nothing
+    unfolding deviceNLevel
+    device-n-plain = by-none (allNone (namesAt (blockAt page n)) count)
+      where
+        by-none : (a : Bool) → plain (cond a (Blank (Inks count)) (Program n alternate (Inks count))) ≡ nothing
+        by-none true = refl
+        by-none false = refl
 
   same-space : (y : Body) → spaceIn page (levelOf page n y) ≡ spaceOf page n y
   unfolding spaceIn levelOf spaceOf tintedOf plainOf
@@ -131,6 +165,7 @@ module _ (page : List ℕ) (n : ℕ) where
   same-space (SeparationBody p) = ink-is p
   same-space Palette = refl
   same-space ProgramBody = refl
+  same-space (DeviceN alternate count) = device-n-is alternate count
 
   same-tinted : (y : Body) → spaceIn page (tinted (levelOf page n y)) ≡ tintedOf page n y
   unfolding spaceIn levelOf tintedOf plainOf
@@ -142,6 +177,7 @@ module _ (page : List ℕ) (n : ℕ) where
   same-tinted (SeparationBody p) = ap (spaceIn page) (ink-tinted p) ∙ ink-is p
   same-tinted Palette = refl
   same-tinted ProgramBody = refl
+  same-tinted (DeviceN alternate count) = ap (spaceIn page) (device-n-tinted alternate count) ∙ device-n-is alternate count
 
   same-plain : (y : Body) → spaceIn page (plain (levelOf page n y)) ≡ plainOf y
   unfolding spaceIn levelOf plainOf
@@ -153,6 +189,7 @@ module _ (page : List ℕ) (n : ℕ) where
   same-plain (SeparationBody p) = ap (spaceIn page) (ink-plain p)
   same-plain Palette = refl
   same-plain ProgramBody = refl
+  same-plain (DeviceN alternate count) = ap (spaceIn page) (device-n-plain alternate count)
 
   space-is : spaceIn page (levelAt page n) ≡ spaceAt page n
   space-is = level-is (λ l. l) refl (spaceOf page n) same-space
@@ -200,30 +237,50 @@ body-rank (IndexedBody base hival) = omega arith
 body-rank (SeparationBody p) = omega arith
 body-rank Palette = omega arith
 body-rank ProgramBody = omega arith
+body-rank (DeviceN alternate count) = omega arith
 
 pub plain-rank : (page : List ℕ) (n : ℕ) → rankOf (plainAt page n) < 1
 plain-rank page n = numbered-ind (λ (s : Space). rankOf s < 1) (omega arith) (omega arith) (omega arith) (omega arith) page plainOf n (body-rank _)
 
+-- a plain space that a record refers to has at most as many components as CMYK
+body-wide : (y : Body) → countOf (plainOf y) ≤ widest
+unfolding plainOf
+body-wide Free = omega arith
+body-wide (CalGray g) = omega arith
+body-wide (CalRgb g) = omega arith
+body-wide (Lab g) = omega arith
+body-wide (IndexedBody base hival) = omega arith
+body-wide (SeparationBody p) = omega arith
+body-wide Palette = omega arith
+body-wide ProgramBody = omega arith
+body-wide (DeviceN alternate count) = omega arith
+
+pub plain-wide : (page : List ℕ) (n : ℕ) → countOf (plainAt page n) ≤ widest
+plain-wide page n = numbered-ind (λ (s : Space). countOf s ≤ widest) (omega arith) (omega arith) (omega arith) (omega arith) page plainOf n (body-wide (bodyAt (blockAt page n)))
+
 -- what holds of plain spaces, and is handed on to a Separation over one, by its exponent or its program, and to an Indexed over either
-module _ (page : List ℕ) (P : Space → Type 0) (plains : (s : Space) → rankOf s < 1 → P s) (separated : (p : Ink) (s : Space) → rankOf s < 1 → P s → P (separationOver p s)) (calculates : (n : ℕ) (s : Space) → rankOf s < 1 → P s → P (calculatedOver page n s)) where
+module _ (page : List ℕ) (P : Space → Type 0) (plains : (s : Space) → rankOf s < 1 → P s) (separated : (p : Ink) (s : Space) → rankOf s < 1 → countOf s ≤ widest → P s → P (separationOver p s)) (calculates : (n : ℕ) (i : Tints) (s : Space) → rankOf s < 1 → P s → P (calculatedOver page n i s)) where
   over-plain : (y : Body) → P (plainOf y)
   over-plain y = plains _ (body-rank y)
 
   over-tinted : (n : ℕ) (y : Body) → P (tintedOf page n y)
-  unfolding tintedOf inkOf
+  unfolding tintedOf inkOf deviceNOf
   over-tinted n Free = over-plain Free
   over-tinted n (CalGray g) = over-plain (CalGray g)
   over-tinted n (CalRgb g) = over-plain (CalRgb g)
   over-tinted n (Lab g) = over-plain (Lab g)
   over-tinted n (IndexedBody base hival) = over-plain (IndexedBody base hival)
   over-tinted n (SeparationBody p) =
-      cond-ind P (nameIs (blockAt page n) theNone) (λ _. plains noMark (omega arith)) (λ _.
-      cond-ind P (nameIs (blockAt page n) theAll) (λ _. plains everyInk (omega arith)) (λ _.
+      cond-ind P (inkIs (blockAt page n) theNone) (λ _. plains (noMark One) (omega arith)) (λ _.
+      cond-ind P (inkIs (blockAt page n) theAll) (λ _. plains everyInk (omega arith)) (λ _.
       cond-ind P (eqb (p .exponent) 0)
-      (λ _. calculates n (plainAt page (p .alternate)) (plain-rank page (p .alternate)) (plains _ (plain-rank page (p .alternate))))
-      (λ _. separated p (plainAt page (p .alternate)) (plain-rank page (p .alternate)) (plains _ (plain-rank page (p .alternate))))))
+      (λ _. calculates n One (plainAt page (p .alternate)) (plain-rank page (p .alternate)) (plains _ (plain-rank page (p .alternate))))
+      (λ _. separated p (plainAt page (p .alternate)) (plain-rank page (p .alternate)) (plain-wide page (p .alternate)) (plains _ (plain-rank page (p .alternate))))))
   over-tinted n Palette = over-plain Palette
   over-tinted n ProgramBody = over-plain ProgramBody
+  over-tinted n (DeviceN alternate count) =
+      cond-ind P (allNone (namesAt (blockAt page n)) count) (λ _. plains (noMark (Inks count)) (omega arith))
+      (λ _. calculates n (Inks count) (plainAt page alternate) (plain-rank page alternate) (plains _ (plain-rank page alternate)))
 
   among : (f : Body → Space) (n : ℕ) → P (f (bodyAt (blockAt page n))) → P (numbered page f n)
   among = numbered-ind P (plains none (omega arith)) (plains gray (omega arith)) (plains rgb (omega arith)) (plains cmyk (omega arith)) page
@@ -242,12 +299,13 @@ module _ (page : List ℕ) (P : Space → Type 0) (plains : (s : Space) → rank
     over-space n (SeparationBody p) = over-tinted n (SeparationBody p)
     over-space n Palette = over-tinted n Palette
     over-space n ProgramBody = over-tinted n ProgramBody
+    over-space n (DeviceN alternate count) = over-tinted n (DeviceN alternate count)
 
     pub space-ind : (n : ℕ) → P (spaceAt page n)
     space-ind n = among (spaceOf page n) n (over-space n _)
 
 -- a space is plain, a Separation, one with a program, or an Indexed
-pub by-rank : (P : Space → Type 0) → ((s : Space) → rankOf s < 1 → P s) → ((e : ℕ) (c0 c1 : List ℤ) (s : Space) → P (separation e c0 c1 s)) → ((c : Code) (s : Space) → P (calculated c s))
+pub by-rank : (P : Space → Type 0) → ((s : Space) → rankOf s < 1 → P s) → ((e : ℕ) (c0 c1 : List ℤ) (s : Space) → P (separation e c0 c1 s)) → ((i : Tints) (c : Code) (s : Space) → P (calculated i c s))
     → ((h : ℕ) (t : List ℤ) (s : Space) → P (indexed h t s)) → (s : Space) → P s
 by-rank P a b d c none = a none (omega arith)
 by-rank P a b d c gray = a gray (omega arith)
@@ -256,8 +314,8 @@ by-rank P a b d c cmyk = a cmyk (omega arith)
 by-rank P a b d c (calGray k) = a (calGray k) (omega arith)
 by-rank P a b d c (calRgb k) = a (calRgb k) (omega arith)
 by-rank P a b d c (lab k al ah bl bh) = a (lab k al ah bl bh) (omega arith)
-by-rank P a b d c noMark = a noMark (omega arith)
+by-rank P a b d c (noMark i) = a (noMark i) (omega arith)
 by-rank P a b d c everyInk = a everyInk (omega arith)
 by-rank P a b d c (separation e c0 c1 s) = b e c0 c1 s
-by-rank P a b d c (calculated k s) = d k s
+by-rank P a b d c (calculated i k s) = d i k s
 by-rank P a b d c (indexed h t s) = c h t s

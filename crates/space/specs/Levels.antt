@@ -9,15 +9,16 @@ use Rattle.fixed.specs.Bytes.{blocks, grayCode, rgbCode, cmykCode, blockAt}
 use Rattle.fixed.specs.Values.{places, listed}
 use Rattle.cie.specs.declared.Closing.{Closing}
 use Rattle.cie.specs.declared.Closing.the-variants.{Nothing, Gray, Rgb, Cmyk, CalGray, CalRgb, Lab, NoMark, EveryInk}
-use Rattle.record.specs.Reading.{bodyAt, theNone, theAll, nameIs}
+use Rattle.record.specs.Reading.{bodyAt, namesAt, theNone, theAll, inkIs, allNone}
 use Rattle.record.specs.declared.types.Ranges.{Ranges}
 use Rattle.record.specs.declared.types.Separation.{Separation as Ink}
 use Rattle.record.specs.declared.types.Body.{Body}
-use Rattle.record.specs.declared.types.Body.the-variants.{Free, CalGray as GrayBody, CalRgb as RgbBody, Lab as LabBody, Indexed as IndexedBody, Separation as SeparationBody, Palette, Program as ProgramBody}
+use Rattle.record.specs.declared.types.Body.the-variants.{Free, CalGray as GrayBody, CalRgb as RgbBody, Lab as LabBody, Indexed as IndexedBody, Separation as SeparationBody, Palette, Program as ProgramBody, DeviceN}
+use Rattle.form.specs.declared.Tints.the-variants.{One, Inks}
 use Rattle.space.specs.Spaces.{Space, none, gray, rgb, cmyk, calGray, calRgb, lab, noMark, everyInk, countOf, lowOf, highOf}
 use Rattle.space.specs.Pages.{grayNumbers, rgbNumbers, labNumbers, plainAt, separationOver, calculatedOver, tintedAt, indexedOver}
 use Rattle.space.specs.declared.nesting.Level.{Level}
-use Rattle.space.specs.declared.nesting.Level.the-variants.{Plain, Separation, Program, Indexed}
+use Rattle.space.specs.declared.nesting.Level.the-variants.{Plain, Blank, Separation, Program, Indexed}
 
 -- the plain space of a closing step, with the ranges of a Lab
 abbrev pub plainIn : Closing → Ranges → Space
@@ -28,7 +29,7 @@ plainIn Cmyk q = cmyk
 plainIn (CalGray k) q = calGray k
 plainIn (CalRgb k) q = calRgb k
 plainIn (Lab k) q = lab k (q .amin) (q .amax) (q .bmin) (q .bmax)
-plainIn NoMark q = noMark
+plainIn NoMark q = noMark One
 plainIn EveryInk q = everyInk
 
 -- the ranges of a space that has none in its record
@@ -38,15 +39,17 @@ noRanges = record { amin = pos 0; amax = pos 0; bmin = pos 0; bmax = pos 0 }
 -- the space that a level is
 unfoldable pub spaceIn : List ℕ → Level → Space
 spaceIn page (Plain c q) = plainIn c q
+spaceIn page (Blank i) = noMark i
 spaceIn page (Separation p) = separationOver p (plainAt page (p .alternate))
-spaceIn page (Program n alternate) = calculatedOver page n (plainAt page alternate)
+spaceIn page (Program n alternate i) = calculatedOver page n i (plainAt page alternate)
 spaceIn page (Indexed n base hival) = indexedOver page n hival (tintedAt page base)
 
 -- nesting falls: Indexed 2, Separation 1, plain 0
 abbrev pub rankIn : Level → ℕ
 rankIn (Plain c q) = 0
+rankIn (Blank i) = 0
 rankIn (Separation p) = 1
-rankIn (Program n alternate) = 1
+rankIn (Program n alternate i) = 1
 rankIn (Indexed n base hival) = 2
 
 -- whether a closing step is Lab's
@@ -79,10 +82,14 @@ nothing = Plain Nothing noRanges
 -- that of the Separation p of block n, whose name decides, and then its exponent
 unfoldable pub inkLevel : List ℕ → ℕ → Ink → Level
 inkLevel page n p =
-    cond (nameIs (blockAt page n) theNone) (Plain NoMark noRanges)
-    (cond (nameIs (blockAt page n) theAll) (Plain EveryInk noRanges)
-    (cond (eqb (p .exponent) 0) (Program n (p .alternate))
+    cond (inkIs (blockAt page n) theNone) (Blank One)
+    (cond (inkIs (blockAt page n) theAll) (Plain EveryInk noRanges)
+    (cond (eqb (p .exponent) 0) (Program n (p .alternate) One)
     (Separation p)))
+
+-- that of the DeviceN of block n, whose names decide
+unfoldable pub deviceNLevel : List ℕ → ℕ → ℕ → ℕ → Level
+deviceNLevel page n alternate count = cond (allNone (namesAt (blockAt page n)) count) (Blank (Inks count)) (Program n alternate (Inks count))
 
 -- the level of block n, whose body is given
 unfoldable pub levelOf : List ℕ → ℕ → Body → Level
@@ -94,6 +101,7 @@ levelOf page n (IndexedBody base hival) = Indexed n base hival
 levelOf page n (SeparationBody p) = inkLevel page n p
 levelOf page n Palette = nothing
 levelOf page n ProgramBody = nothing
+levelOf page n (DeviceN alternate count) = deviceNLevel page n alternate count
 
 -- the closing step of a device space, by its code
 unfoldable pub deviceClosing : ℕ → Closing

@@ -1,5 +1,5 @@
--- The space at a number of a page (FORMAT.md, Kinds and Palettes): a plain one, a Separation over a plain one, or an Indexed over one of those, so nesting falls
--- at each step.
+-- The space at a number of a page (FORMAT.md, Kinds and Palettes): a plain one, a Separation or a DeviceN over a plain one, or an Indexed over one of those, so
+-- nesting falls at each step.
 use Prim.Native.Nat.{ℕ, _+_, _*_, _%_}
 use mathlib.Core.Bool.{cond}
 use mathlib.Core.List.{List}
@@ -14,13 +14,15 @@ use Rattle.cie.specs.declared.GrayClosing.{GrayClosing}
 use Rattle.cie.specs.declared.RgbClosing.{RgbClosing}
 use Rattle.cie.specs.declared.LabClosing.{LabClosing}
 use Rattle.record.specs.Layout.{entriesOf}
-use Rattle.record.specs.Reading.{bodyAt, theNone, theAll, nameIs}
+use Rattle.record.specs.Reading.{bodyAt, namesAt, theNone, theAll, inkIs, allNone}
 use Rattle.record.specs.declared.types.CalGray.{CalGray as GraySpace}
 use Rattle.record.specs.declared.types.CalRgb.{CalRgb as RgbSpace}
 use Rattle.record.specs.declared.types.Lab.{Lab as LabSpace}
 use Rattle.record.specs.declared.types.Separation.{Separation as Ink}
 use Rattle.record.specs.declared.types.Body.{Body}
-use Rattle.record.specs.declared.types.Body.the-variants.{Free, CalGray, CalRgb, Lab, Indexed, Separation, Palette, Program}
+use Rattle.record.specs.declared.types.Body.the-variants.{Free, CalGray, CalRgb, Lab, Indexed, Separation, Palette, Program, DeviceN}
+use Rattle.form.specs.declared.Tints.{Tints}
+use Rattle.form.specs.declared.Tints.the-variants.{One, Inks}
 use Rattle.calculator.specs.Calculator.{codeAfter}
 use Rattle.space.specs.Numbers.{paletteByte}
 use Rattle.space.specs.Spaces.{Space, none, gray, rgb, cmyk, calGray, calRgb, lab, noMark, everyInk, separation, calculated, indexed, countOf, lowOf, highOf}
@@ -67,6 +69,7 @@ plainOf (Indexed base hival) = none
 plainOf (Separation p) = none
 plainOf Palette = none
 plainOf Program = none
+plainOf (DeviceN alternate count) = none
 
 abbrev pub plainAt : List ℕ → ℕ → Space
 plainAt page n = numbered page plainOf n
@@ -81,20 +84,26 @@ c1Of p s = take (countOf s) (entriesOf (p .c1))
 abbrev pub separationOver : Ink → Space → Space
 separationOver p s = separation (p .exponent) (c0Of p s) (c1Of p s) s
 
--- the program in the blocks after block n, over the alternate s
-abbrev pub calculatedOver : List ℕ → ℕ → Space → Space
-calculatedOver page n s = calculated (codeAfter page n) s
+-- the program in the blocks after block n, which takes the tints i, over the alternate s
+abbrev pub calculatedOver : List ℕ → ℕ → Tints → Space → Space
+calculatedOver page n i s = calculated i (codeAfter page n) s
 
 -- the Separation p of block n: one named None never marks, one named All is every ink, and any other is answered in its alternate space, by its program where its
 -- exponent is 0
 unfoldable pub inkOf : List ℕ → ℕ → Ink → Space
 inkOf page n p =
-    cond (nameIs (blockAt page n) theNone) noMark
-    (cond (nameIs (blockAt page n) theAll) everyInk
-    (cond (eqb (p .exponent) 0) (calculatedOver page n (plainAt page (p .alternate)))
+    cond (inkIs (blockAt page n) theNone) (noMark One)
+    (cond (inkIs (blockAt page n) theAll) everyInk
+    (cond (eqb (p .exponent) 0) (calculatedOver page n One (plainAt page (p .alternate)))
     (separationOver p (plainAt page (p .alternate)))))
 
--- block n with the body given: a Separation, or a plain space
+-- the DeviceN of block n: one whose names are all None never marks, and any other is answered in its alternate space, by its program
+unfoldable pub deviceNOf : List ℕ → ℕ → ℕ → ℕ → Space
+deviceNOf page n alternate count =
+    cond (allNone (namesAt (blockAt page n)) count) (noMark (Inks count))
+    (calculatedOver page n (Inks count) (plainAt page alternate))
+
+-- block n with the body given: a Separation, a DeviceN, or a plain space
 unfoldable pub tintedOf : List ℕ → ℕ → Body → Space
 tintedOf page n Free = plainOf Free
 tintedOf page n (CalGray g) = plainOf (CalGray g)
@@ -104,6 +113,7 @@ tintedOf page n (Indexed base hival) = plainOf (Indexed base hival)
 tintedOf page n (Separation p) = inkOf page n p
 tintedOf page n Palette = plainOf Palette
 tintedOf page n Program = plainOf Program
+tintedOf page n (DeviceN alternate count) = deviceNOf page n alternate count
 
 abbrev pub tintedAt : List ℕ → ℕ → Space
 tintedAt page n = numbered page (tintedOf page n) n
@@ -137,6 +147,7 @@ spaceOf page n (Indexed base hival) = indexedOver page n hival (tintedAt page ba
 spaceOf page n (Separation p) = tintedOf page n (Separation p)
 spaceOf page n Palette = tintedOf page n Palette
 spaceOf page n Program = tintedOf page n Program
+spaceOf page n (DeviceN alternate count) = tintedOf page n (DeviceN alternate count)
 
 abbrev pub spaceAt : List ℕ → ℕ → Space
 spaceAt page n = numbered page (spaceOf page n) n

@@ -6,8 +6,9 @@ use lib.Signed.{ltZ}
 use lib.ListN.{length}
 use Rattle.fixed.specs.Numbers.{exponentSupported, gammaSupported}
 use Rattle.stack.specs.Flat.{flat}
-use Rattle.form.specs.Steps.{fitting}
-use Rattle.calculator.specs.Calculator.{mostFlat}
+use Rattle.fixed.specs.Values.{widest}
+use Rattle.form.specs.Steps.{takenBy, fitting}
+use Rattle.fixed.specs.Sizes.{mostFlat}
 use Rattle.space.specs.Spaces.{Space, none, gray, rgb, cmyk, calGray, calRgb, lab, noMark, everyInk, separation, calculated, indexed, countOf}
 
 -- nesting falls: Indexed 2, Separation 1, plain 0
@@ -19,10 +20,10 @@ rankOf cmyk = 0
 rankOf (calGray k) = 0
 rankOf (calRgb k) = 0
 rankOf (lab k al ah bl bh) = 0
-rankOf noMark = 0
+rankOf (noMark i) = 0
 rankOf everyInk = 0
 rankOf (separation e c0 c1 s) = 1
-rankOf (calculated c s) = 1
+rankOf (calculated i c s) = 1
 rankOf (indexed h t s) = 2
 
 -- gammas and exponents within the house limit, ranges in order, programs that leave as many numbers as the alternate has components, hival at most 255, lists as
@@ -35,8 +36,8 @@ WellMade cmyk = Unit {0}
 WellMade (calGray k) = gammaSupported (k .gamma) ≡ true
 WellMade (calRgb k) = (gammaSupported (k .ga) ≡ true) × (gammaSupported (k .gb) ≡ true) × (gammaSupported (k .gc) ≡ true)
 WellMade (lab k al ah bl bh) = (ltZ ah al ≡ false) × (ltZ bh bl ≡ false)
-WellMade noMark = Unit {0}
+WellMade (noMark i) = Unit {0}
 WellMade everyInk = Unit {0}
-WellMade (separation e c0 c1 s) = (exponentSupported e ≡ true) × (length c0 ≡ countOf s) × (length c1 ≡ countOf s) × (rankOf s < 1) × WellMade s
-WellMade (calculated c s) = (fitting (countOf s) c ≡ true) × (length (flat c) ≤ mostFlat) × (rankOf s < 1) × WellMade s
+WellMade (separation e c0 c1 s) = (exponentSupported e ≡ true) × (countOf s ≤ widest) × (length c0 ≡ countOf s) × (length c1 ≡ countOf s) × (rankOf s < 1) × WellMade s
+WellMade (calculated i c s) = (fitting (takenBy i) (countOf s) c ≡ true) × (length (flat c) ≤ mostFlat) × (rankOf s < 1) × WellMade s
 WellMade (indexed h t s) = (h ≤ 255) × (length t ≡ countOf s * (h + 1)) × (rankOf s < 2) × WellMade s

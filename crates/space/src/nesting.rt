@@ -3,32 +3,45 @@ ghost use mathlib.Core.Path.{_≡_};
 ghost use mathlib.Core.List.{List};
 ghost use Prim.Native.Nat.{ℕ, _<_};
 ghost use Rattle.space.specs.Pages.{grayNumbers, rgbNumbers, labNumbers, plainAt, tintedAt};
-ghost use Rattle.space.specs.Levels.{spaceIn, rankIn, noRanges, nothing, isNamed, inkLevel, levelOf, deviceClosing, levelAt};
+ghost use Rattle.space.specs.Levels.{spaceIn, rankIn, noRanges, nothing, isNamed, inkLevel, deviceNLevel, levelOf, deviceClosing, levelAt};
 use cie::Closing;
 use cie::GrayClosing;
 use cie::LabClosing;
 use cie::RgbClosing;
 use fixed::BLOCKS;
+use form::Tints;
 use record::Body;
 use record::CalGray;
 use record::CalRgb;
 use record::Lab;
 use record::Ranges;
 use record::Separation;
+use record::are_none;
 use record::body_at;
 use record::is_name;
+use record::names_at;
 
 // What a number stands for, as far as the next space within.
 pub enum Level {
-    // A device space, CalGray, CalRGB or Lab, or a Separation named None or All: its closing step, and a Lab's ranges. A number that is no space's has the
+    // A device space, CalGray, CalRGB or Lab, or a Separation named All: its closing step, and a Lab's ranges. A number that is no space's has the
     // closing step of nothing.
     Plain(Closing, Ranges),
+    // A Separation named None, or a DeviceN all of whose names are None, with the tints that it is given.
+    Blank(Tints),
     // A Separation of any other name with its exponent, C0 and C1, and the number of its alternate.
     Separation(Separation),
-    // A Separation of any other name, whose program stands in the blocks after its own, with the number of its alternate.
-    Program { block: u16, alternate: u16 },
+    // A Separation of any other name, or a DeviceN, whose program stands in the blocks after its own, with the number of its alternate, and the tints that it takes.
+    Program {
+        block: u16,
+        alternate: u16,
+        tints: Tints,
+    },
     // The Indexed space of a block, with the number of its base.
-    Indexed { block: u16, base: u16, hival: u16 },
+    Indexed {
+        block: u16,
+        base: u16,
+        hival: u16,
+    },
 }
 
 fn gray_numbers(g: CalGray) -> GrayClosing
@@ -104,19 +117,35 @@ fn lab_level(g: Lab) -> Level
 fn ink_level(page: &[u8], n: u16, p: Separation) -> Level
     ensures { λ r. ⌜ r ≡ inkLevel (now (page .entry)) n p ⌝ }
 {
-    if is_name(page, n as u32, b"None") {
-        return Level::Plain(Closing::NoMark, no_ranges());
+    if is_name(page, n as u32, 7, b"None") {
+        return Level::Blank(Tints::One);
     }
-    if is_name(page, n as u32, b"All") {
+    if is_name(page, n as u32, 7, b"All") {
         return Level::Plain(Closing::EveryInk, no_ranges());
     }
     if p.exponent == 0 {
         return Level::Program {
             block: n,
             alternate: p.alternate,
+            tints: Tints::One,
         };
     }
     Level::Separation(p)
+}
+
+// The level of the DeviceN of block n: its names are looked at here.
+fn device_n_level(page: &[u8], n: u16, alternate: u16, count: u8) -> Level
+    ensures { λ r. ⌜ r ≡ deviceNLevel (now (page .entry)) n alternate count ⌝ }
+{
+    let tints = Tints::Inks(count as u32);
+    if are_none(&names_at(page, n as u32), count as u32) {
+        return Level::Blank(tints);
+    }
+    Level::Program {
+        block: n,
+        alternate,
+        tints,
+    }
 }
 
 // The level of block n, whose body is given.
@@ -136,6 +165,7 @@ fn level_of(page: &[u8], n: u16, y: Body) -> Level
         Body::Separation(p) => ink_level(page, n, p),
         Body::Palette => nothing(),
         Body::Program => nothing(),
+        Body::DeviceN { alternate, count } => device_n_level(page, n, alternate, count),
     }
 }
 
@@ -186,10 +216,12 @@ pub fn tinted_at(page: &[u8], n: u16) -> Level
     let l = level_at(page, n as u32);
     match l {
         Level::Plain(_, _) => l,
+        Level::Blank(_) => l,
         Level::Separation(_) => l,
         Level::Program {
             block: _,
             alternate: _,
+            tints: _,
         } => l,
         Level::Indexed {
             block: _,
@@ -212,10 +244,12 @@ pub fn plain_at(page: &[u8], n: u16) -> Level
             }
             l
         }
+        Level::Blank(_) => nothing(),
         Level::Separation(_) => nothing(),
         Level::Program {
             block: _,
             alternate: _,
+            tints: _,
         } => nothing(),
         Level::Indexed {
             block: _,

@@ -2,6 +2,7 @@
 ghost use mathlib.Core.Path.{_≡_};
 ghost use mathlib.Core.List.{List};
 ghost use Prim.Native.Nat.{ℕ, _≤_};
+ghost use lib.ListN.{set, replicate};
 ghost use Rattle.fixed.specs.Values.{places, listed};
 ghost use Rattle.space.specs.Spaces.{countOf, limitCount, lowOf, highOf};
 ghost use Rattle.space.specs.Pages.{spaceAt};
@@ -10,6 +11,7 @@ use crate::nesting::Level;
 use crate::nesting::level_at;
 use cie::Closing;
 use fixed::VALUES;
+use form::taken;
 use record::Ranges;
 
 // How many components a plain space has, by its closing step.
@@ -30,7 +32,7 @@ pub fn plain_count(c: Closing) -> u32
     }
 }
 
-// How many of a plain space's components are limited: all, but that of a Separation named None.
+// How many of a plain space's components are limited: all, but none where there is no mark.
 pub fn limit_count(c: Closing) -> u32
     ensures is { λ r. ⌜ r ≡ limitCount (plainIn c noRanges) ⌝ }
     ensures small { λ r. ⌜ r ≤ places ⌝ }
@@ -55,11 +57,13 @@ pub fn count(l: Level) -> u32
 {
     match l {
         Level::Plain(c, _) => plain_count(c),
+        Level::Blank(tints) => taken(tints),
         Level::Separation(_) => 1,
         Level::Program {
             block: _,
             alternate: _,
-        } => 1,
+            tints,
+        } => taken(tints),
         Level::Indexed {
             block: _,
             base: _,
@@ -93,12 +97,22 @@ fn is_lab(c: Closing) -> bool
     }
 }
 
+// An end for the first component, one for the second, and one for all others.
+fn ends_of(first: i32, second: i32, others: i32) -> [i32; VALUES]
+    ensures { λ r. ⌜ r ≡ set (set (replicate places others) 0 first) 1 second ⌝ }
+{
+    let mut ends = [others; VALUES];
+    ends[0] = first;
+    ends[1] = second;
+    ends
+}
+
 // The low end of each component's range in a plain space.
 pub fn plain_lows(c: Closing, q: Ranges) -> [i32; VALUES]
     ensures { λ r. ⌜ r ≡ listed (lowOf (plainIn c q)) places ⌝ }
 {
     if is_lab(c) {
-        return [0, q.amin, q.bmin, q.bmin];
+        return ends_of(0, q.amin, q.bmin);
     }
     [0; VALUES]
 }
@@ -108,7 +122,7 @@ pub fn plain_highs(c: Closing, q: Ranges) -> [i32; VALUES]
     ensures { λ r. ⌜ r ≡ listed (highOf (plainIn c q)) places ⌝ }
 {
     if is_lab(c) {
-        return [100000000, q.amax, q.bmax, q.bmax];
+        return ends_of(100000000, q.amax, q.bmax);
     }
     [1000000; VALUES]
 }
@@ -119,10 +133,12 @@ pub fn lows(l: Level) -> [i32; VALUES]
 {
     match l {
         Level::Plain(c, q) => plain_lows(c, q),
+        Level::Blank(_) => [0; VALUES],
         Level::Separation(_) => [0; VALUES],
         Level::Program {
             block: _,
             alternate: _,
+            tints: _,
         } => [0; VALUES],
         Level::Indexed {
             block: _,
@@ -138,10 +154,12 @@ pub fn highs(l: Level) -> [i32; VALUES]
 {
     match l {
         Level::Plain(c, q) => plain_highs(c, q),
+        Level::Blank(_) => [1000000; VALUES],
         Level::Separation(_) => [1000000; VALUES],
         Level::Program {
             block: _,
             alternate: _,
+            tints: _,
         } => [1000000; VALUES],
         Level::Indexed {
             block: _,

@@ -13,11 +13,12 @@ use Rattle.fixed.proofs.Decide.{and-left, both}
 use Rattle.layout.specs.Field.{Bytes}
 use Rattle.record.specs.Layout.{blockOf}
 use Rattle.record.specs.Reading.{ownAt, bodyAt, recordAt}
-use Rattle.record.specs.Rules.{wellFormed, wellShaped, lawful, supported, faultOf}
+use Rattle.fixed.specs.Loops.{allFrom}
+use Rattle.record.specs.Rules.{wellFormed, wellShaped, lawful, supported, faultOf, lawfulIn, namesLawful}
 use Rattle.record.specs.Fits.{Fits}
 use Rattle.record.specs.declared.types.Separation.{Separation as Ink}
 use Rattle.record.specs.declared.types.Body.{Body}
-use Rattle.record.specs.declared.types.Body.the-variants.{Free, CalGray, CalRgb, Lab, Indexed, Separation, Palette, Program}
+use Rattle.record.specs.declared.types.Body.the-variants.{Free, CalGray, CalRgb, Lab, Indexed, Separation, Palette, Program, DeviceN}
 use Rattle.record.specs.declared.types.Record.{Record}
 use Rattle.record.proofs.Shapes.{formed-shaped}
 use Rattle.block.proofs.Blocks.{Read, read-at}
@@ -43,6 +44,7 @@ module _ (d : Device) where
   own-zero own (Separation p) suits = suits .1
   own-zero own Palette suits = absurd suits
   own-zero own Program suits = absurd suits
+  own-zero own (DeviceN alternate count) suits = absurd suits
 
   array-so : (own : ℕ) (y : Body) (s : List ℕ) → Suits 0 own y (device d) [] → isArray (spaceBy y s (device d) []) ≡ true
   array-so own Free s suits = absurd suits
@@ -53,6 +55,7 @@ module _ (d : Device) where
   array-so own (Separation p) s suits = refl
   array-so own Palette s suits = absurd suits
   array-so own Program s suits = absurd suits
+  array-so own (DeviceN alternate count) s suits = absurd suits
 
 -- a palette has a byte
 no-palette : (d : Device) (hival : ℕ) → 0 ≡ componentsOf (device d) * (hival + 1) → ⊥
@@ -69,6 +72,7 @@ sole d own r (Indexed base hival) suits = absurd (no-palette d hival (suits .3))
 sole d own r (Separation p) suits = refl
 sole d own r Palette suits = absurd suits
 sole d own r Program suits = absurd suits
+sole d own r (DeviceN alternate count) suits = absurd suits
 
 -- an exponent of 1 or more means no program
 with-exponent : (e : ℕ) → 1 ≤ e → eqb e 0 ≡ false
@@ -88,7 +92,7 @@ module _ (b : List ℕ) where
   within-device deviceCmyk p e = rw e
 
   second : (d : Device) (own : ℕ) (y : Body) → lawful y ≡ true → supported y ≡ true → Suits 0 own y (device d) [] → faultClaimed b 0 0 y ≡ 0
-  unfolding faultClaimed permitted programFault usedEntries wellFilled
+  unfolding faultClaimed lawfulIn namesLawful allFrom permitted programFault usedEntries wellFilled
   second d own Free law limit suits = absurd suits
   second d own (CalGray g) law limit suits = rw (law, limit)
   second d own (CalRgb g) law limit suits = rw (law, limit)
@@ -98,6 +102,7 @@ module _ (b : List ℕ) where
       rw (law, limit, permitted-device d p (suits .2), with-exponent (p .exponent) (suits .4), within-device d p (suits .2), suits .3)
   second d own Palette law limit suits = absurd suits
   second d own Program law limit suits = absurd suits
+  second d own (DeviceN alternate count) law limit suits = absurd suits
 
 module _ (r : Record) (d : Device) (typed : Fits r) (all : Bytes (r .bytes)) (ok : faultOf r ≡ 0) (suits : Suits 0 (r .own) (r .body) (device d) []) where
   abbrev b : List ℕ

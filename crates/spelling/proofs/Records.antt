@@ -20,11 +20,11 @@ use Rattle.fixed.proofs.Scans.{all-each}
 use Rattle.layout.specs.Field.{padded, FieldsFit, Bytes}
 use Rattle.layout.proofs.Held.{length-padded, getD-padded, zero-at}
 use Rattle.record.specs.Layout.{body, rest, entriesOf}
-use Rattle.record.specs.Rules.{isZero, noneZero, nameFits, wellNamed, used, wellShaped, lawful, supported, entriesEnd, faultOf}
+use Rattle.record.specs.Rules.{isZero, noneZero, nameFits, wellNamed, used, wellShaped, lawful, supported, entriesEnd, faultOf, lawfulIn}
 use Rattle.record.specs.Fits.{Fits}
 use Rattle.record.specs.declared.types.Four.{Four}
 use Rattle.record.specs.declared.types.Body.{Body}
-use Rattle.record.specs.declared.types.Body.the-variants.{Free, CalGray, CalRgb, Lab, Indexed, Separation, Palette, Program}
+use Rattle.record.specs.declared.types.Body.the-variants.{Free, CalGray, CalRgb, Lab, Indexed, Separation, Palette, Program, DeviceN}
 use Rattle.record.specs.declared.types.Record.{Record}
 use Rattle.runs.specs.Runs.{runLength, unusedZero}
 use Rattle.objects.specs.Objects.{small, bytesFrom}
@@ -203,6 +203,7 @@ module _ (n own : ℕ) (s : List ℕ) (inside : Space) (palette : List ℕ) (lon
       )
   fits-by Palette h name law limit suits = absurd suits
   fits-by Program h name law limit suits = absurd suits
+  fits-by (DeviceN alternate count) h name law limit suits = absurd suits
 
   -- the room is its name and zeros
   room-back : (k : ℕ) → k ≤ 504 → ((i : ℕ) → k ≤ i → i < 504 → getD s i 0 ≡ 0) → padded 504 (take k s) ≡ s
@@ -249,6 +250,7 @@ module _ (n own : ℕ) (s : List ℕ) (inside : Space) (palette : List ℕ) (lon
       ∷ []))
   among-by Palette name zeros suits = absurd suits
   among-by Program name zeros suits = absurd suits
+  among-by (DeviceN alternate count) name zeros suits = absurd suits
 
 -- ---- any record
 
@@ -256,12 +258,12 @@ module _ (r : Record) (n : ℕ) (inside : Space) (palette : List ℕ) (typed : F
     (suits : Suits n (r .own) (r .body) inside palette) where
   -- the tests that it passed
   pub tests : (wellShaped r ≡ true) × (lawful (r .body) ≡ true) × (supported (r .body) ≡ true)
-  unfolding faultOf
+  unfolding faultOf lawfulIn
   tests =
       let a = passed (wellShaped r) _ 3 (λ e. omega arith) ok in
-      let b = passed (lawful (r .body)) _ 4 (λ e. omega arith) (a .1) in
+      let b = passed (lawfulIn (r .bytes) (r .body)) _ 4 (λ e. omega arith) (a .1) in
       let c = passed (supported (r .body)) _ 5 (λ e. omega arith) (b .1) in
-      (a .0, b .0, c .0)
+      (a .0, and-left (lawful (r .body)) _ (b .0), c .0)
 
   shape : (wellNamed (r .body) (r .bytes) && zeroBetween (r .bytes) (used (r .body)) 504) ≡ true
   unfolding wellShaped

@@ -11,7 +11,7 @@ use Rattle.fixed.specs.Numbers.{gammaSupported}
 use Rattle.layout.specs.Field.{padded}
 use Rattle.record.specs.Layout.{headOf, plain, weighed, checked, blockOf}
 use Rattle.record.specs.Reading.{bodyBy, nameIs}
-use Rattle.record.specs.Rules.{wellLaid, nameShown, wellFormed, lawful, supported, whitePoint, blackPoint, ordered, noneZero, nameFits, paletteEnds, entriesEnd}
+use Rattle.record.specs.Rules.{wellLaid, nameShown, wellFormed, lawful, supported, whitePoint, blackPoint, ordered, noneZero, nameFits, paletteEnds, entriesEnd, lawfulIn, namesLawful}
 use Rattle.record.specs.declared.types.Triple.{Triple}
 use Rattle.digits.specs.Digits.{digitsIn, digits}
 use Rattle.lexical.specs.Chars.{white, delimiter, regular}
@@ -86,7 +86,7 @@ Accepted [] = Unit
 Accepted (t ∷ ts) = (validated (pageOf (t ∷ [])) ≡ accepted) × Accepted ts
 
 all-accepted : Accepted samples
-unfolding pageOf blockOf headOf twoBytes fourBytes padded validated wellSized faultOne faultTwo faultClaimed claimedAt claimedAfter paletteClaimed permitted refersTo within palettes runFilled programFault usedEntries unusedZero wellFilled checked plain weighed bodyBy wellLaid nameShown nameFits noneZero wellFormed lawful supported whitePoint blackPoint ordered paletteEnds entriesEnd gammaSupported numberAt total allFrom zeroBetween firstFrom deviceOf tintedOf inkOf nameIs plainOf
+unfolding pageOf blockOf headOf twoBytes fourBytes padded validated wellSized faultOne faultTwo faultClaimed claimedAt claimedAfter paletteClaimed permitted refersTo within palettes runFilled programFault usedEntries unusedZero wellFilled checked plain weighed bodyBy wellLaid nameShown nameFits noneZero wellFormed lawful lawfulIn namesLawful supported whitePoint blackPoint ordered paletteEnds entriesEnd gammaSupported numberAt total allFrom zeroBetween firstFrom deviceOf tintedOf inkOf nameIs plainOf
 all-accepted = (refl, (refl, (refl, (refl, (refl, (refl, tt))))))
 
 -- ---- and reads back

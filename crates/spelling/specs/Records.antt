@@ -10,7 +10,7 @@ use Rattle.record.specs.Layout.{entriesOf, blockOf}
 use Rattle.record.specs.Rules.{faultOf}
 use Rattle.record.specs.Fits.{Fits}
 use Rattle.record.specs.declared.types.Body.{Body}
-use Rattle.record.specs.declared.types.Body.the-variants.{Free, CalGray, CalRgb, Lab, Indexed, Separation, Palette, Program}
+use Rattle.record.specs.declared.types.Body.the-variants.{Free, CalGray, CalRgb, Lab, Indexed, Separation, Palette, Program, DeviceN}
 use Rattle.record.specs.declared.types.Record.{Record}
 use Rattle.runs.specs.Runs.{runLength, unusedZero}
 use Rattle.reader.specs.Texts.{textOf, page}
@@ -29,6 +29,7 @@ spaceBy (Separation p) s inside palette =
     (take (componentsOf inside) (entriesOf (p .c1)))
 spaceBy Palette s inside palette = inside
 spaceBy Program s inside palette = inside
+spaceBy (DeviceN alternate count) s inside palette = inside
 
 -- and so of the whole record
 abbrev pub spaceOf : Record → Space → List ℕ → Space
@@ -55,6 +56,7 @@ Suits n own (Separation p) inside palette =
     × (1 ≤ p .exponent)
 Suits n own Palette inside palette = ⊥
 Suits n own Program inside palette = ⊥
+Suits n own (DeviceN alternate count) inside palette = ⊥
 
 -- the records before its own: those of the space inside
 abbrev pub recordsBefore : ℕ → Body → Space → List Record
@@ -66,6 +68,7 @@ recordsBefore n (Indexed base hival) inside = recordsOf n inside
 recordsBefore n (Separation p) inside = recordsOf n inside
 recordsBefore n Palette inside = []
 recordsBefore n Program inside = []
+recordsBefore n (DeviceN alternate count) inside = []
 
 -- and after it: its palette's
 abbrev pub recordsAfter : ℕ → Body → List ℕ → List Record
@@ -77,6 +80,7 @@ recordsAfter own (Indexed base hival) palette = palettes (own + 1) (runLength (l
 recordsAfter own (Separation p) palette = []
 recordsAfter own Palette palette = []
 recordsAfter own Program palette = []
+recordsAfter own (DeviceN alternate count) palette = []
 
 -- Every record of a space that the rules of a record accept, with bytes in its room and no program, can be spelled out, and is itself among the records of
 -- what is spelled: its own comes straight after those of the space inside it, and its palette's straight after it.

@@ -10,9 +10,11 @@ use lib.Dec.{leb}
 use lib.ListN.{length, length-append}
 use borrow.Author.Tests.{lt-ltb, le-ltb, le-leb}
 use Rattle.fixed.specs.Numbers.{exponentSupported, gammaSupported}
-use Rattle.fixed.specs.Values.{places}
+use Rattle.fixed.specs.Values.{places, widest}
 use Rattle.fixed.proofs.Decide.{both}
-use Rattle.form.specs.Steps.{wellFormed}
+use Rattle.form.specs.Steps.{wellFormed, nearestCount, takenBy, headWords}
+use Rattle.form.specs.declared.Tints.{Tints}
+use Rattle.form.specs.declared.Tints.the-variants.{One, Inks}
 use Rattle.form.proofs.Parts.{form-there}
 use Rattle.cie.specs.declared.GrayClosing.{GrayClosing}
 use Rattle.cie.specs.declared.RgbClosing.{RgbClosing}
@@ -36,19 +38,24 @@ limit-read k lo hi l h o =
 
 -- ---- a tint: m C0s, then m C1s
 
-pub tint-read : (e m : ℕ) (c0 c1 l : List ℤ) → exponentSupported e ≡ true → 1 ≤ m → m ≤ places → length c0 ≡ m → length c1 ≡ m
+pub tint-read : (e m : ℕ) (c0 c1 l : List ℤ) → exponentSupported e ≡ true → 1 ≤ m → m ≤ widest → length c0 ≡ m → length c1 ≡ m
     → stepOf ((pos 3 ∷ pos e ∷ pos m ∷ (c0 ++ c1)) ++ l) ≡ At (Tint e m) (3 + 2 * m)
 unfolding stepBy tintRead
 tint-read e m c0 c1 l supported low high h0 h1 =
     let o : 3 + 2 * m ≤ suc (suc (suc (length ((c0 ++ c1) ++ l)))) = simp length-append (omega arith) in
-    simp (supported, one-to m places low high, le-ltb _ _ o)
+    simp (supported, one-to m widest low high, le-ltb _ _ o)
 
--- ---- a program: a flat form of k words that leaves m numbers
+-- ---- a program: a flat form of k words that takes the tints i and leaves m numbers
 
-pub program-read : (m k : ℕ) (ws l : List ℤ) → length ws ≡ k → wellFormed ws m ≡ true
-    → stepOf ((pos 12 ∷ pos m ∷ pos k ∷ ws) ++ l) ≡ At (Program m k) (3 + k)
+-- how many words stand before the flat form
+abbrev pub headSize : Tints → ℕ
+headSize i = length (headWords i) + 2
+
+pub program-read : (i : Tints) (m k : ℕ) (ws l : List ℤ) → length ws ≡ k → wellFormed ws (takenBy i) m ≡ true
+    → stepOf ((headWords i ++ (pos m ∷ pos k ∷ ws)) ++ l) ≡ At (Program (takenBy i) m (headSize i) k) (headSize i + k)
 unfolding stepBy programRead
-program-read m k ws l size formed = simp (form-there (pos 12 ∷ pos m ∷ pos k ∷ []) ws l 3 k refl size m formed)
+program-read One m k ws l size formed = simp (form-there (pos 12 ∷ pos m ∷ pos k ∷ []) ws l 3 k refl size 1 m formed)
+program-read (Inks t) m k ws l size formed = simp (form-there (pos 13 ∷ pos (nearestCount t) ∷ pos m ∷ pos k ∷ []) ws l 4 k refl size (nearestCount t) m formed)
 
 -- ---- a row of a table of h + 1 rows, m entries each
 

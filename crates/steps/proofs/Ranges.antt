@@ -10,9 +10,8 @@ use lib.Dec.{leb}
 use lib.ListN.{length}
 use borrow.Author.Tests.{leb-true, not-true, not-false}
 use Rattle.fixed.specs.Numbers.{greatest, exponentSupported}
-use Rattle.fixed.specs.Values.{value, smallOf, places}
+use Rattle.fixed.specs.Values.{value, smallOf, places, widest, fills, makes}
 use Rattle.fixed.proofs.Decide.{and-left, and-right}
-use Rattle.steps.specs.Steps.{fills}
 use Rattle.steps.specs.Ranges.{Bounded}
 use Rattle.steps.specs.declared.Step.the-variants.{Row, Tint}
 
@@ -28,14 +27,14 @@ row-range m h e =
     let f = and-left (fills m) (leb h 255) e in
     (low m places f, high m places f, leb-true h 255 (and-right (fills m) (leb h 255) e))
 
-pub tint-range : (x m : ℕ) → (exponentSupported x && fills m) ≡ true → Bounded (Tint x m)
+pub tint-range : (x m : ℕ) → (exponentSupported x && makes m) ≡ true → Bounded (Tint x m)
 tint-range x m e =
-    let f = and-left (exponentSupported x) (fills m) e in
-    let g = and-right (exponentSupported x) (fills m) e in
-    (low x greatest f, high x greatest f, low m places g, high m places g)
+    let f = and-left (exponentSupported x) (makes m) e in
+    let g = and-right (exponentSupported x) (makes m) e in
+    (low x greatest f, high x greatest f, low m widest g, high m widest g)
 
 -- the entries of a table, of a row step that is in range
-pub few : (m h : ℕ) → m ≤ places → h ≤ 255 → m * (h + 1) ≤ 1024
+pub few : (m h : ℕ) → m ≤ places → h ≤ 255 → m * (h + 1) ≤ places * 256
 few m h p q =
     let k : h + 1 ≤ 256 = omega arith in
     mul-le-mul p k
@@ -51,18 +50,18 @@ module _ (m h : ℕ) {t : Bool} (e : t ≡ fills m) where
   pub row-yes : not (t && leb h 255) ≡ false → (fills m && leb h 255) ≡ true
   row-yes f = sym joined ∙ not-false _ f
 
-  pub row-few : not (t && leb h 255) ≡ false → m * (h + 1) ≤ 1024
+  pub row-few : not (t && leb h 255) ≡ false → m * (h + 1) ≤ places * 256
   row-few f = let r = row-range m h (row-yes f) in few m h (r .1) (r .2)
 
 -- and those of a tint step's
-module _ (x m : ℕ) {t u : Bool} (e : t ≡ exponentSupported x) (f : u ≡ fills m) where
-  tint-joined : (t && u) ≡ (exponentSupported x && fills m)
+module _ (x m : ℕ) {t u : Bool} (e : t ≡ exponentSupported x) (f : u ≡ makes m) where
+  tint-joined : (t && u) ≡ (exponentSupported x && makes m)
   tint-joined = ap₂ _&&_ e f
 
-  pub tint-no : not (t && u) ≡ true → (exponentSupported x && fills m) ≡ false
+  pub tint-no : not (t && u) ≡ true → (exponentSupported x && makes m) ≡ false
   tint-no g = sym tint-joined ∙ not-true _ g
 
-  pub tint-yes : not (t && u) ≡ false → (exponentSupported x && fills m) ≡ true
+  pub tint-yes : not (t && u) ≡ false → (exponentSupported x && makes m) ≡ true
   tint-yes g = sym tint-joined ∙ not-false _ g
 
 -- a recipe that begins with a count has a word

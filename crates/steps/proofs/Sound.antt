@@ -10,13 +10,13 @@ use lib.Dec.{ltb, leb, eqb}
 use lib.ListN.{length}
 use borrow.Author.Tests.{ltb-true, ltb-false}
 use Rattle.fixed.specs.Numbers.{exponentSupported, gammaSupported}
-use Rattle.fixed.specs.Values.{value, smallOf, places}
+use Rattle.fixed.specs.Values.{value, smallOf, places, fills, makes}
 use Rattle.fixed.proofs.Decide.{cond-ind}
 use Rattle.form.specs.Steps.{formAt}
 use Rattle.form.proofs.Parts.{form-placed}
 use Rattle.cie.specs.declared.Closing.{Closing}
 use Rattle.cie.specs.declared.Closing.the-variants.{Gray, Rgb, Cmyk, CalGray, CalRgb, Lab, NoMark, EveryInk}
-use Rattle.steps.specs.Steps.{fills, limitRead, rowRead, tintRead, programRead, closeRead, grayWords, grayRead, rgbWords, rgbRead, labWords, stepBy, stepOf}
+use Rattle.steps.specs.Steps.{limitRead, rowRead, tintRead, programRead, closeRead, grayWords, grayRead, rgbWords, rgbRead, labWords, stepBy, stepOf}
 use Rattle.steps.specs.Ranges.{Bounded, Carried}
 use Rattle.steps.specs.declared.Step.{Step}
 use Rattle.steps.specs.declared.Step.the-variants.{Limit, Row, Tint, Program, Close}
@@ -29,7 +29,7 @@ abbrev pub Standing : List ℤ → Step → Type 0
 Standing l (Limit k lo hi) = Unit {0}
 Standing l (Row m h) = Unit {0}
 Standing l (Tint e m) = Unit {0}
-Standing l (Program m n) = Unit {0}
+Standing l (Program t m at n) = Unit {0}
 Standing l (Close k) = Carried l k
 
 abbrev pub Sound : List ℤ → Read → Type 0
@@ -69,16 +69,16 @@ unfolding tintRead
 tint-sound l =
     let x = smallOf (value l 1) in
     let m = smallOf (value l 2) in
-    cond-ind (Fine l) (exponentSupported x && fills m) (λ e. unless l (Tint x m) (3 + 2 * m) (omega arith) (tint-range x m e) tt) (λ _. nothing l)
+    cond-ind (Fine l) (exponentSupported x && makes m) (λ e. unless l (Tint x m) (3 + 2 * m) (omega arith) (tint-range x m e) tt) (λ _. nothing l)
 
-program-sound : (l : List ℤ) → Fine l (programRead l)
+program-sound : (t from : ℕ) (l : List ℤ) → Fine l (programRead t from l)
 unfolding programRead
-program-sound l =
-    let m = smallOf (value l 1) in
-    let n = smallOf (value l 2) in
-    cond-ind (Fine l) (formAt l 3 n m) (λ e.
-    let p = form-placed l 3 n m e in
-    at l (Program m n) (3 + n) (omega arith) (p .there) (p .low, p .high, p .few) tt) (λ _. nothing l)
+program-sound t from l =
+    let m = smallOf (value l from) in
+    let n = smallOf (value l (from + 1)) in
+    cond-ind (Fine l) (formAt l (from + 2) n t m) (λ e.
+    let p = form-placed l (from + 2) n t m e in
+    at l (Program t m (from + 2) n) (from + 2 + n) (omega arith) (p .there) (p .takes, p .low, p .high, p .few) tt) (λ _. nothing l)
 
 close-sound : (l : List ℤ) (n : ℕ) (k : Closing) → 1 ≤ n → Carried l k → Fine l (closeRead l n k)
 unfolding closeRead
@@ -109,7 +109,8 @@ by-sound op l =
     cond-ind (Fine l) (eqb op 9) (λ _. close-sound l 3 (Lab (labWords l)) (omega arith) refl) (λ _.
     cond-ind (Fine l) (eqb op 10) (λ _. close-sound l 1 NoMark (omega arith) tt) (λ _.
     cond-ind (Fine l) (eqb op 11) (λ _. close-sound l 1 EveryInk (omega arith) tt) (λ _.
-    cond-ind (Fine l) (eqb op 12) (λ _. program-sound l) (λ _. nothing l))))))))))))
+    cond-ind (Fine l) (eqb op 12) (λ _. program-sound 1 1 l) (λ _.
+    cond-ind (Fine l) (eqb op 13) (λ _. program-sound (smallOf (value l 1)) 2 l) (λ _. nothing l)))))))))))))
 
 -- every step that is read takes 1 to `length l` words, its small numbers are in range, and a closing step's numbers are words of l
 pub step-sound : (l : List ℤ) → Sound l (stepOf l)

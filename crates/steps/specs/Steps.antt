@@ -1,13 +1,13 @@
 -- FORMAT.md, Recipes: the steps, each read off the front of a list of words.
 use Prim.Native.Nat.{ℕ, _+_, _*_}
-use mathlib.Core.Bool.{Bool, cond, _&&_}
+use mathlib.Core.Bool.{cond, _&&_}
 use mathlib.Core.List.{List}
 use lib.IntN.{ℤ}
 use lib.Signed.{ltZ}
 use lib.Dec.{ltb, leb, eqb}
 use lib.ListN.{length}
 use Rattle.fixed.specs.Numbers.{exponentSupported, gammaSupported}
-use Rattle.fixed.specs.Values.{value, smallOf, places}
+use Rattle.fixed.specs.Values.{value, smallOf, places, fills, makes}
 use Rattle.form.specs.Steps.{formAt}
 use Rattle.cie.specs.declared.GrayClosing.{GrayClosing}
 use Rattle.cie.specs.declared.RgbClosing.{RgbClosing}
@@ -18,11 +18,7 @@ use Rattle.steps.specs.declared.Step.the-variants.{Limit, Row, Tint, Pro
 use Rattle.steps.specs.declared.Read.{Read}
 use Rattle.steps.specs.declared.Read.the-variants.{At, Nothing}
 
--- how many values a step fills: 1 to 4
-abbrev pub fills : ℕ → Bool
-fills m = leb 1 m && leb m places
-
--- 1 k lo hi: value k (0..3) limited; lo <= hi
+-- 1 k lo hi: value k (0..7) limited; lo <= hi
 unfoldable pub limitRead : List ℤ → Read
 limitRead l =
     cond (ltb (length l) 4) Nothing
@@ -30,7 +26,7 @@ limitRead l =
     (cond (ltZ (value l 3) (value l 2)) Nothing (At (Limit (smallOf (value l 1)) (value l 2) (value l 3)) 4))
     Nothing)
 
--- 2 m h and m (h + 1) entries; m 1..4, h 0..255
+-- 2 m h and m (h + 1) entries; m 1..8, h 0..255
 unfoldable pub rowRead : List ℤ → Read
 rowRead l =
     cond (fills (smallOf (value l 1)) && leb (smallOf (value l 2)) 255)
@@ -41,16 +37,16 @@ rowRead l =
 -- 3 e m, m C0s, m C1s; e and m 1..4
 unfoldable pub tintRead : List ℤ → Read
 tintRead l =
-    cond (exponentSupported (smallOf (value l 1)) && fills (smallOf (value l 2)))
+    cond (exponentSupported (smallOf (value l 1)) && makes (smallOf (value l 2)))
     (cond (ltb (length l) (3 + 2 * smallOf (value l 2))) Nothing
     (At (Tint (smallOf (value l 1)) (smallOf (value l 2))) (3 + 2 * smallOf (value l 2))))
     Nothing
 
--- 12 m n and n words: the flat form of a program that leaves m numbers
-unfoldable pub programRead : List ℤ → Read
-programRead l =
-    cond (formAt l 3 (smallOf (value l 2)) (smallOf (value l 1)))
-    (At (Program (smallOf (value l 1)) (smallOf (value l 2))) (3 + smallOf (value l 2)))
+-- m n and n words, with m at the place `at`: the flat form of a program that takes t values and leaves m numbers. 12 m n: it takes 1; 13 t m n
+unfoldable pub programRead : ℕ → ℕ → List ℤ → Read
+programRead t at l =
+    cond (formAt l (at + 2) (smallOf (value l (at + 1))) t (smallOf (value l at)))
+    (At (Program t (smallOf (value l at)) (at + 2) (smallOf (value l (at + 1)))) (at + 2 + smallOf (value l (at + 1))))
     Nothing
 
 -- a closing step of n words
@@ -106,8 +102,9 @@ stepBy op l =
     (cond (eqb op 9) (closeRead l 3 (Lab (labWords l)))
     (cond (eqb op 10) (closeRead l 1 NoMark)
     (cond (eqb op 11) (closeRead l 1 EveryInk)
-    (cond (eqb op 12) (programRead l)
-    Nothing)))))))))))
+    (cond (eqb op 12) (programRead 1 1 l)
+    (cond (eqb op 13) (programRead (smallOf (value l 1)) 2 l)
+    Nothing))))))))))))
 
 -- no step begins with a word 0, so none is read off an empty list
 abbrev pub stepOf : List ℤ → Read

@@ -15,8 +15,8 @@ pub enum Step {
     Row(u32, u32),
     // The tint to the exponent e, and m components of the alternate space.
     Tint(u32, u32),
-    // The program that leaves m numbers, of n words.
-    Program(u32, u32),
+    // The program that takes t values and leaves m numbers, whose words stand from `at` on, n of them.
+    Program(u32, u32, u32, u32),
     // The closing step.
     Close(Closing),
 }

@@ -1,5 +1,6 @@
 // The steps of a recipe, each read off the front of a list of words.
 ghost use mathlib.Core.Path.{_≡_};
+ghost use Prim.Native.Nat.{_≤_};
 ghost use Rattle.steps.specs.Steps.{
   limitRead,
   rowRead,
@@ -18,6 +19,7 @@ use crate::Step;
 use crate::words::gamma_at;
 use crate::words::is_below;
 use crate::words::is_count;
+use crate::words::is_made;
 use cie::Closing;
 use cie::GrayClosing;
 use cie::LabClosing;
@@ -73,7 +75,7 @@ fn tint_read(l: &[i32]) -> Read
 {
     let e = small_at(l, 1);
     let m = small_at(l, 2);
-    let good = is_exponent(e) & is_count(m);
+    let good = is_exponent(e) & is_made(m);
     if !good {
         return Read::Nothing;
     }
@@ -84,14 +86,16 @@ fn tint_read(l: &[i32]) -> Read
     Read::At(Step::Tint(e, m), n)
 }
 
-// 12 m n, and n words, the flat form of a program that leaves m numbers.
-fn program_read(l: &[i32]) -> Read
-    ensures { λ r. ⌜ r ≡ programRead (now (l .entry)) ⌝ }
+// m n, with m at the place `at`, and n words, the flat form of a program that takes t values and leaves m numbers.
+fn program_read(l: &[i32], t: u32, at: u32) -> Read
+    requires { ⌜ at ≤ 2 ⌝ }
+    ensures { λ r. ⌜ r ≡ programRead t at (now (l .entry)) ⌝ }
 {
-    let m = small_at(l, 1);
-    let n = small_at(l, 2);
-    if is_form_at(l, 3, n as usize, m as usize) {
-        return Read::At(Step::Program(m, n), 3 + (n as usize));
+    let m = small_at(l, at as usize);
+    let n = small_at(l, at as usize + 1);
+    let from = at + 2;
+    if is_form_at(l, from as usize, n as usize, t as usize, m as usize) {
+        return Read::At(Step::Program(t, m, from, n), from as usize + (n as usize));
     }
     Read::Nothing
 }
@@ -181,7 +185,8 @@ pub fn step_of(l: &[i32]) -> Read
         9 => close_read(l, 3, Closing::Lab(lab_words(l))),
         10 => close_read(l, 1, Closing::NoMark),
         11 => close_read(l, 1, Closing::EveryInk),
-        12 => program_read(l),
+        12 => program_read(l, 1, 1),
+        13 => program_read(l, small_at(l, 1), 2),
         _ => Read::Nothing,
     }
 }

@@ -2,9 +2,9 @@
 ghost use mathlib.Core.Path.{_≡_};
 ghost use lib.Signed.{ltZ};
 ghost use Rattle.fixed.specs.Numbers.{gammaSupported};
-ghost use Rattle.fixed.specs.Values.{value};
-ghost use Rattle.steps.specs.Steps.{fills};
+ghost use Rattle.fixed.specs.Values.{value, fills, makes};
 use fixed::VALUES;
+use fixed::WIDEST;
 use fixed::is_gamma;
 use fixed::value_at;
 
@@ -22,9 +22,16 @@ pub fn gamma_at(l: &[i32], i: usize) -> bool
     is_gamma(value_at(l, i))
 }
 
-// Whether a step may fill m values, or a recipe begin from m components.
+// Whether a row may fill m values, or a recipe begin from m components.
 pub fn is_count(m: u32) -> bool
     ensures { λ r. ⌜ r ≡ fills m ⌝ }
 {
     (1 <= m) & (m <= (VALUES as u32))
+}
+
+// Whether a tint may make m components.
+pub fn is_made(m: u32) -> bool
+    ensures { λ r. ⌜ r ≡ makes m ⌝ }
+{
+    (1 <= m) & (m <= (WIDEST as u32))
 }

@@ -1,12 +1,15 @@
 // How many words a space's recipe has.
 ghost use mathlib.Core.Path.{_≡_};
 ghost use Prim.Native.Nat.{_+_, _*_, _≤_};
+ghost use lib.ListN.{length};
+ghost use Rattle.form.specs.Steps.{headWords};
 ghost use Rattle.space.specs.Spaces.{wordsOf};
 ghost use Rattle.space.specs.Pages.{entries, spaceAt};
 ghost use Rattle.space.specs.Levels.{plainIn, noRanges, spaceIn, rankIn};
 use calculator::program_run;
 use calculator::run_words;
 use cie::Closing;
+use form::Tints;
 use space::Level;
 use space::count;
 use space::level_at;
@@ -31,20 +34,38 @@ fn plain_words(c: Closing) -> u32
     }
 }
 
-// The words of the recipe of a level's space: those of the space within, and what an Indexed or a Separation adds.
+// How many words stand before a program's flat form: 3, or 4 where they say how many values it takes.
+pub fn head_size(i: Tints) -> u32
+    ensures is { λ r. ⌜ r ≡ length (headWords i) + 2 ⌝ }
+    ensures small { λ r. ⌜ r ≤ 4 ⌝ }
+{
+    match i {
+        Tints::One => 3,
+        Tints::Inks(_) => 4,
+    }
+}
+
+// The words of the recipe of a level's space: those of the space within, and what an Indexed, a Separation or a DeviceN adds.
 pub fn words_in(page: &[u8], l: Level) -> u32
     ensures is { λ r. ⌜ r ≡ wordsOf (spaceIn (now (page .entry)) l) ⌝ }
     ensures small { λ r. ⌜ r ≤ (entries + 26) * (rankIn l + 1) ⌝ }
 {
     match l {
         Level::Plain(c, _) => plain_words(c),
+        Level::Blank(_) => 2,
         Level::Separation(p) => {
             let s = plain_at(page, p.alternate);
             3 + 2 * count(s) + words_in(page, s)
         }
-        Level::Program { block, alternate } => {
+        Level::Program {
+            block,
+            alternate,
+            tints,
+        } => {
             let s = plain_at(page, alternate);
-            3 + run_words(page, block, program_run(page, block)) as u32 + words_in(page, s)
+            head_size(tints)
+                + run_words(page, block, program_run(page, block)) as u32
+                + words_in(page, s)
         }
         Level::Indexed {
             block: _,

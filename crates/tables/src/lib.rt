@@ -2,6 +2,7 @@
 mod lengths;
 mod palette;
 
+pub use lengths::head_size;
 pub use lengths::words;
 pub use lengths::words_in;
 pub use palette::entry;

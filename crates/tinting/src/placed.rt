@@ -1,44 +1,49 @@
-// A flat form that stands among other words, as step 12 in a recipe, on a colour.
+// A flat form that stands among other words, as step 12 or 13 in a recipe, on the values of a colour.
 ghost use mathlib.Core.Path.{_≡_};
-ghost use Rattle.form.specs.Steps.{partOf, formValues, formStep};
-use crate::stepping::ONE;
+ghost use Prim.Native.Nat.{_≤_};
+ghost use Rattle.fixed.specs.Values.{places};
+ghost use Rattle.form.specs.Steps.{partOf, tintsOutside, formValues};
+use crate::stepping::is_moving;
 use crate::stepping::run;
-use fixed::Colour;
 use fixed::VALUES;
-use fixed::is_outside;
 
-// The n words from `at` on, as many as there are, on the values. The function calls itself, and so stays a function of its own when it is compiled: the stack takes memory only
-// while a program is run, and none in a recipe without one. The values are lent and not a whole colour, since what goes to and from this call has its place in the frame of every
-// run of a recipe.
-fn run_at(words: &[i32], at: usize, n: usize, count: usize, values: &mut [i32; VALUES])
-    ensures { λ _. ⌜ now (values .exit) ≡ formValues count (partOf (now (words .entry)) at n) (now (values .entry)) ⌝ }
+// The n words from `at` on, as many as there are, on the values, of which they take the first t. The function calls itself, and so stays a function of its own when it is compiled: the
+// stack takes memory only while a program is run, and none in a recipe without one. The values are lent and not a whole colour, since what goes to and from this call has its place in the
+// frame of every run of a recipe.
+fn run_at(words: &[i32], at: usize, n: usize, t: usize, count: usize, values: &mut [i32; VALUES])
+    requires { ⌜ t ≤ places ⌝ }
+    ensures { λ _. ⌜ now (values .exit) ≡ formValues t count (partOf (now (words .entry)) at n) (now (values .entry)) ⌝ }
 {
     let size = words.len();
     if size < at {
-        run_at(words, size, n, count, values);
+        run_at(words, size, n, t, count, values);
         return;
     }
     if size - at < n {
-        run_at(words, at, size - at, count, values);
+        run_at(words, at, size - at, t, count, values);
         return;
     }
     let v = *values;
-    let u = run(&words[at..at + n], count, v);
+    let u = run(&words[at..at + n], t, count, v);
     *values = u;
 }
 
-// Step 12 of the n words from `at` on, as many as there are, with `count` results. The colour moves where the tint, value 0, lies outside 0..1. The values are copied, so that they
-// stay in registers in a recipe without a program.
-pub fn step(words: &[i32], at: usize, n: usize, count: usize, c: Colour) -> Colour
-    ensures { λ r. ⌜ r ≡ formStep count (partOf (now (words .entry)) at n) c ⌝ }
+// Step 12 or 13 of the n words from `at` on, as many as there are, which take t values, each limited to 0..1, and whose `count` results replace the values from 0. It says whether limiting
+// moved one of them.
+pub fn step(
+    words: &[i32],
+    at: usize,
+    n: usize,
+    t: usize,
+    count: usize,
+    values: &mut [i32; VALUES],
+) -> bool
+    requires { ⌜ t ≤ places ⌝ }
+    ensures leaves { λ _. ⌜ now (values .exit) ≡ formValues t count (partOf (now (words .entry)) at n) (now (values .entry)) ⌝ }
+    ensures moves { λ r. ⌜ r ≡ tintsOutside t (now (values .entry)) ⌝ }
 {
-    let moved = c.moved;
-    let mut v = c.values;
-    let x = v[0];
-    run_at(words, at, n, count, &mut v);
-    let outside = is_outside(x, 0, ONE);
-    Colour {
-        values: v,
-        moved: moved | outside,
-    }
+    let v = *values;
+    let moves = is_moving(v, t);
+    run_at(words, at, n, t, count, values);
+    moves
 }

@@ -2,20 +2,21 @@
 ghost use mathlib.Core.Path.{_≡_};
 ghost use Prim.Native.Nat.{_≤_, _-_};
 ghost use lib.ListN.{length};
-ghost use Rattle.fixed.specs.Values.{value, filled};
+ghost use Rattle.fixed.specs.Values.{places, value, filled};
 ghost use Rattle.stack.specs.Memory.{stackOf};
-ghost use Rattle.form.specs.Steps.{results, formValues};
+ghost use Rattle.form.specs.Steps.{tintsIn, tintsOutside, results, formValues};
 use fixed::VALUES;
+use fixed::is_outside;
 use fixed::limit;
 use stack::MOST;
 use stack::value_at;
 
 // 1 in millionths.
-pub const ONE: i32 = 1000000;
+const ONE: i32 = 1000000;
 
 // The first n values are those of the stack from the m-th on, upward.
 fn fill(a: &[i32], h: usize, m: usize, n: usize, v: [i32; VALUES]) -> [i32; VALUES]
-    requires { ⌜ (h ≤ length (now a)) × (n ≤ m) × (n ≤ 4) ⌝ }
+    requires { ⌜ (h ≤ length (now a)) × (n ≤ m) × (n ≤ places) ⌝ }
     ensures { λ r. ⌜ r ≡ filled (λ k. value (stackOf (now (a .entry)) h) (m - 1 - k)) n v ⌝ }
 {
     let mut u = v;
@@ -39,12 +40,41 @@ fn replace(a: &[i32], h: usize, m: usize, v: [i32; VALUES]) -> [i32; VALUES]
     fill(a, h, m, VALUES, v)
 }
 
-// Runs a flat form on value 0, limited to 0..1; `count` results replace the values from 0.
-pub fn run(words: &[i32], count: usize, v: [i32; VALUES]) -> [i32; VALUES]
-    ensures { λ r. ⌜ r ≡ formValues count (now (words .entry)) v ⌝ }
+// The first t values, each limited to 0..1, on the stack, the first deepest.
+fn take(v: [i32; VALUES], t: usize, a: &mut [i32])
+    requires { ⌜ (t ≤ places) × (places ≤ length (now a)) ⌝ }
+    ensures { λ _. ⌜ stackOf (now (a .exit)) t ≡ tintsIn t v ⌝ }
+{
+    let mut k: usize = 0;
+    while k < t {
+        let x = limit(v[k], 0, ONE);
+        a[k] = x;
+        k += 1;
+    }
+}
+
+// Whether one of the first t values lies outside 0..1.
+pub fn is_moving(v: [i32; VALUES], t: usize) -> bool
+    requires { ⌜ t ≤ places ⌝ }
+    ensures { λ r. ⌜ r ≡ tintsOutside t v ⌝ }
+{
+    let mut out = false;
+    let mut k: usize = 0;
+    while k < t {
+        let b = is_outside(v[k], 0, ONE);
+        out = out | b;
+        k += 1;
+    }
+    out
+}
+
+// Runs a flat form on the first t values, each limited to 0..1; `count` results replace the values from 0.
+pub fn run(words: &[i32], t: usize, count: usize, v: [i32; VALUES]) -> [i32; VALUES]
+    requires { ⌜ t ≤ places ⌝ }
+    ensures { λ r. ⌜ r ≡ formValues t count (now (words .entry)) v ⌝ }
 {
     let mut a = [0i32; MOST];
-    a[0] = limit(v[0], 0, ONE);
-    let h = stack::run(words, &mut a, 1);
+    take(v, t, &mut a);
+    let h = stack::run(words, &mut a, t);
     replace(&a, h, count, v)
 }

@@ -2,7 +2,7 @@
 ghost use mathlib.Core.Path.{_≡_};
 ghost use Prim.Native.Nat.{_≤_};
 ghost use Rattle.fixed.specs.Numbers.{tintValue};
-ghost use Rattle.fixed.specs.Values.{places, value, filled, tintStep};
+ghost use Rattle.fixed.specs.Values.{widest, value, filled, tintStep};
 ghost use Rattle.record.specs.Layout.{entriesOf};
 use fixed::Colour;
 use fixed::VALUES;
@@ -15,7 +15,7 @@ use record::entries_of;
 
 // The first m components of the alternate space, q millionths of the way from C0 to C1.
 fn fill_tint(c0: [i32; 4], c1: [i32; 4], m: u32, q: u32, v: [i32; VALUES]) -> [i32; VALUES]
-    requires { ⌜ (m ≤ places) × (q ≤ 1000000) ⌝ }
+    requires { ⌜ (m ≤ widest) × (q ≤ 1000000) ⌝ }
     ensures { λ r. ⌜ r ≡ filled (λ k. tintValue (value c0 k) (value c1 k) q) m v ⌝ }
 {
     let mut u = v;
@@ -30,7 +30,7 @@ fn fill_tint(c0: [i32; 4], c1: [i32; 4], m: u32, q: u32, v: [i32; VALUES]) -> [i
 
 // What value 0 tints: a colour of the alternate space, of m components, not limited yet.
 pub fn tint(p: Separation, m: u32, c: Colour) -> Colour
-    requires { ⌜ m ≤ places ⌝ }
+    requires { ⌜ m ≤ widest ⌝ }
     ensures { λ r. ⌜ r ≡ tintStep (p .exponent) m (entriesOf (p .c0)) (entriesOf (p .c1)) c ⌝ }
 {
     let moved = c.moved;

@@ -7,8 +7,9 @@ use reference::block::{BLOCK, DEVICE_CMYK, DEVICE_GRAY, DEVICE_RGB};
 use reference::generate::Rng;
 use reference::numbers::ONE;
 use reference::records::{
-    cal_gray, cal_rgb, free, indexed_run, lab, page, program_run, separation, USUAL,
+    cal_gray, cal_rgb, device_n_run, free, indexed_run, lab, page, program_run, separation, USUAL,
 };
+use reference::samples::{MAP_INKS, TWO_INKS};
 use sktelbaan::{TextReader, MOST_BLOCKS, PAGE_BYTES};
 use std::hint::black_box;
 use std::time::Instant;
@@ -136,6 +137,14 @@ fn spaces() -> Vec<Space> {
                 &[unit],
             )
         },
+        Space {
+            colours: FEWER_COLOURS,
+            ..space(
+                "DeviceN of two inks over CMYK, a program of 40 tokens",
+                &device_n_run(0, DEVICE_CMYK, &MAP_INKS, TWO_INKS),
+                &[unit; 2],
+            )
+        },
         space("Indexed over Separation over Lab", &nested, &[rows]),
     ]
 }
@@ -258,8 +267,9 @@ fn evaluations(pages: &[Vec<u8>]) {
         let blocks = page.len() / BLOCK;
         println!("| {name} | {blocks} | {ours:.0} | {rival:.0} | {plain:.0} |");
     };
-    for space in spaces().iter().filter(|space| space.page.len() == 512) {
-        let colours = Colours::new(&space.ranges, 256);
+    let few = |space: &&Space| space.page.len() == BLOCK || space.name.starts_with("DeviceN");
+    for space in spaces().iter().filter(few) {
+        let colours = Colours::new(&space.ranges, space.colours.min(256));
         row(space.name, &space.page, space.number, &colours);
     }
     let unit = (0, ONE);
@@ -279,17 +289,22 @@ fn evaluations(pages: &[Vec<u8>]) {
     }
 }
 
-/// Palettes of 256 rows, over a base whose ranges are 0..1 and over one with others: writing the recipe, and
-/// evaluating on the page.
+/// Palettes of 256 rows, over a base whose ranges are 0..1 and over one with others, and two inks of a map: writing the
+/// recipe, and evaluating on the page.
 fn palettes() {
-    println!("| Indexed, hival 255 | `write_recipe`, ns | the plain reference | `evaluate`, ns per colour | the fast rival |");
+    println!("| Indexed, hival 255, or DeviceN | `write_recipe`, ns | the plain reference | `evaluate`, ns per colour | the fast rival |");
     println!("|---|---|---|---|---|");
     let bytes: Vec<u8> = (0..768).map(|place| (place * 73 % 256) as u8).collect();
     let over_rgb = page(&indexed_run(0, DEVICE_RGB, 255, &bytes));
     let mut records = indexed_run(0, 3, 255, &bytes);
     records.push(lab(3, USUAL));
     let over_lab = page(&records);
-    for (name, page) in [("over RGB", over_rgb), ("over Lab", over_lab)] {
+    let map = page(&device_n_run(0, DEVICE_CMYK, &MAP_INKS, TWO_INKS));
+    for (name, page, ranges) in [
+        ("over RGB", over_rgb, &[(0, 255 * ONE)][..]),
+        ("over Lab", over_lab, &[(0, 255 * ONE)]),
+        ("DeviceN of two inks over CMYK", map, &[(0, ONE); 2]),
+    ] {
         let mut words = [0; sktelbaan::LONGEST];
         assert!(sktelbaan::write_recipe(&page, 0, &mut words).is_ok());
         let write = least(|| {
@@ -300,7 +315,7 @@ fn palettes() {
             let reply = reference::recipe::write(black_box(&page), 0, black_box(&mut words));
             black_box(&reply.is_ok());
         });
-        let colours = Colours::new(&[(0, 255 * ONE)], 256);
+        let colours = Colours::new(ranges, 256);
         let ours = per_colour(&colours, |colour| {
             sktelbaan::evaluate(black_box(&page), 0, colour)
         });

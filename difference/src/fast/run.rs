@@ -3,7 +3,7 @@
 use super::{decode, values_of};
 use reference::cie::Answer;
 use reference::colour::{Colour, Reply};
-use reference::numbers::{limit, ONE};
+use reference::numbers::{limit, ONE, VALUES};
 use reference::recipe::MOST_WORDS;
 use reference::runner::{close, closing, flat, step, Closing, Step};
 
@@ -32,7 +32,7 @@ fn tint_value(c0: i32, c1: i32, q: i64) -> i32 {
 }
 
 /// Takes a step, and says whether its limiting moved something.
-fn take(step: Step<'_>, values: &mut [i32; 4]) -> bool {
+fn take(step: Step<'_>, values: &mut [i32; VALUES]) -> bool {
     match step {
         Step::Limit { k, lo, hi } => {
             let before = values[k];
@@ -55,20 +55,21 @@ fn take(step: Step<'_>, values: &mut [i32; 4]) -> bool {
             }
             tint != before
         }
-        Step::Program { m, words } => {
-            let before = values[0];
-            let tint = limit(before, 0, ONE);
-            for (value, left) in values.iter_mut().take(m).zip(flat::run(words, tint)) {
+        Step::Program { taken, m, words } => {
+            let tints = values.map(|v| limit(v, 0, ONE));
+            let moved = tints[..taken] != values[..taken];
+            let left = flat::run(words, &tints[..taken]);
+            for (value, left) in values.iter_mut().take(m).zip(left) {
                 *value = left;
             }
-            tint != before
+            moved
         }
     }
 }
 
 /// The answer of a closing step.
-fn closed(closing: &Closing, values: [i32; 4]) -> Answer {
-    let [a, b, c, _] = values;
+fn closed(closing: &Closing, values: [i32; VALUES]) -> Answer {
+    let [a, b, c, ..] = values;
     match *closing {
         Closing::CalGray { xw, zw, gamma } => Answer::Xyz(decode::cal_gray(xw, zw, gamma, a)),
         Closing::CalRgb { gammas, matrix } => {
@@ -81,7 +82,7 @@ fn closed(closing: &Closing, values: [i32; 4]) -> Answer {
 /// Runs a recipe on a colour. Each step is taken as soon as it is read: nothing comes of it should a later word be
 /// ill-formed or the count of components wrong.
 pub fn run(words: &[i32], colour: &[i32]) -> Reply {
-    let [count @ 1..=4, steps @ ..] = words else {
+    let [count @ 1..=8, steps @ ..] = words else {
         return Err((11, 0));
     };
     if words.len() > MOST_WORDS {

@@ -1,6 +1,6 @@
 //! Validation of a page, many bytes in one go.
 
-use reference::block::{Body, BLOCK, BODY, MOST_BLOCKS, NAME};
+use reference::block::{packed_names, Body, BLOCK, BODY, MOST_BLOCKS, NAME};
 use reference::numbers::read_two;
 use reference::page::{block_at, family, Family, MOST_PROGRAM_BLOCKS};
 use reference::program::judge;
@@ -68,6 +68,7 @@ fn form_holds(block: &[u8; BLOCK]) -> bool {
         5 if !name_holds(&block[8..8 + NAME], block[7]) => return false,
         5 => 168,
         6 | 7 => CHECK_AT,
+        8 => return block[7] == 0 && packed_names(&block[8..CHECK_AT], block[6]).is_some(),
         _ => return false,
     };
     all_zero(&block[named_to..CHECK_AT])
@@ -89,9 +90,9 @@ fn palette_run(page: &[u8], indexed: usize, bytes: usize) -> Option<usize> {
     Some(run)
 }
 
-/// How many blocks straight after a record with exponent 0 hold its program, which leaves so many numbers; 7 where there
-/// is none, where one but the last has a zero, or where a byte but zero follows the first zero; then 16 and 17.
-fn program_run(page: &[u8], record: usize, left: usize) -> Result<usize, u32> {
+/// How many blocks straight after a record hold its program, which takes and leaves so many numbers; 7 where there is none,
+/// where one but the last has a zero, or where a byte but zero follows the first zero; then 16 and 17.
+fn program_run(page: &[u8], record: usize, taken: usize, left: usize) -> Result<usize, u32> {
     let mut text = Vec::new();
     let mut run = 0;
     let mut ended = false;
@@ -112,7 +113,7 @@ fn program_run(page: &[u8], record: usize, left: usize) -> Result<usize, u32> {
     if run == 0 {
         return Err(7);
     }
-    judge(&text, left).map(|_| run)
+    judge(&text, taken, left).map(|_| run)
 }
 
 /// Refusals 4, 5, 6, 16, 17 and 7 of one block on its page. `run_end` is the first block past every run found so far, of
@@ -121,7 +122,7 @@ fn rules(page: &[u8], at: usize, block: &[u8; BLOCK], run_end: &mut usize) -> Re
     let Some(body) = Body::of(block) else {
         return Err(3);
     };
-    if let Some(number) = body.number_refusal() {
+    if let Some(number) = body.number_refusal(&block[8..CHECK_AT]) {
         return Err(number);
     }
     match body {
@@ -144,17 +145,29 @@ fn rules(page: &[u8], at: usize, block: &[u8; BLOCK], run_end: &mut usize) -> Re
             ..
         } => {
             let alternate = match family(page, u32::from(alternate)) {
-                None | Some(Family::Indexed | Family::Separation) => return Err(6),
+                None | Some(Family::Indexed | Family::Separation | Family::DeviceN(_)) => {
+                    return Err(6)
+                }
                 Some(alternate) => alternate,
             };
             let mut past = alternate.components();
             if exponent == 0 {
-                *run_end = at + 1 + program_run(page, at, past)?;
+                *run_end = at + 1 + program_run(page, at, 1, past)?;
                 past = 0;
             }
             if c0[past..].iter().chain(&c1[past..]).any(|v| *v != 0) {
                 return Err(7);
             }
+        }
+        Body::DeviceN { alternate, count } => {
+            let alternate = match family(page, u32::from(alternate)) {
+                None | Some(Family::Indexed | Family::Separation | Family::DeviceN(_)) => {
+                    return Err(6)
+                }
+                Some(alternate) => alternate,
+            };
+            let taken = usize::from(count);
+            *run_end = at + 1 + program_run(page, at, taken, alternate.components())?;
         }
         Body::Palette | Body::Program if at >= *run_end => return Err(7),
         _ => {}

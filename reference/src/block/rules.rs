@@ -1,12 +1,13 @@
 //! What a record must meet by itself: refusals 3, 4 and 5, and 6 for a block without its page.
 
-use super::{Body, Record, BLOCK, CHECK_AT, MOST_BLOCKS, NAME, NAME_AT};
+use super::names::{names_differ, packed_names};
+use super::{Body, Record, BLOCK, CHECK_AT, MOST_BLOCKS, NAME, NAMES, NAME_AT};
 use super::{DEVICE_CMYK, DEVICE_GRAY, DEVICE_RGB};
 use crate::gamma::tenths;
 use crate::numbers::ONE;
 
 /// Whether all of these bytes are zero.
-fn zero(bytes: &[u8]) -> bool {
+pub(super) fn zero(bytes: &[u8]) -> bool {
     bytes.iter().all(|byte| *byte == 0)
 }
 
@@ -20,7 +21,7 @@ fn name_holds(name: &[u8], length: u8) -> bool {
 /// Refused with 3 is an "unknown kind" and "a byte not zero that must be": byte 1 is zero, and "body bytes not named
 /// are zero". A block's own number is looked at by the caller.
 pub fn form_holds(block: &[u8; BLOCK]) -> bool {
-    let (kind, name_length) = (block[0], block[7]);
+    let (kind, count, name_length) = (block[0], block[6], block[7]);
     // By the table of kinds, the first byte after those that are named.
     let named_to = match kind {
         0 => 4,
@@ -31,12 +32,16 @@ pub fn form_holds(block: &[u8; BLOCK]) -> bool {
         5 => 168,
         // Document 02: "calculator text in one to four blocks of new kind 7".
         6 | 7 => CHECK_AT,
+        // "Body: alternate 4, count of names 6 (one byte), then from 8" the names, whose zeros are looked at with them.
+        8 => CHECK_AT,
         _ => return false,
     };
-    let name = &block[NAME_AT..NAME_AT + NAME];
-    block[1] == 0
-        && zero(&block[named_to..CHECK_AT])
-        && (kind != 5 || name_holds(name, name_length))
+    let names_hold = match kind {
+        5 => name_holds(&block[NAME_AT..NAME_AT + NAME], name_length),
+        8 => block[7] == 0 && packed_names(&block[NAME_AT..CHECK_AT], count).is_some(),
+        _ => true,
+    };
+    block[1] == 0 && zero(&block[named_to..CHECK_AT]) && names_hold
 }
 
 /// "White X and Z above 0, Y exactly 1; black not below 0."
@@ -51,8 +56,9 @@ fn is_device(reference: u16) -> bool {
 
 impl Body {
     /// "Clause rules: white X and Z above 0, Y exactly 1; black not below 0; CalGray gamma above 0; amin <= amax,
-    /// bmin <= bmax; hival 0 to 255."
-    fn clause_holds(&self) -> bool {
+    /// bmin <= bmax; hival 0 to 255." By document 02 "equal names, or All among them, 4": these are the bytes in which the
+    /// names of a DeviceN are packed.
+    fn clause_holds(&self, names: &[u8]) -> bool {
         match self {
             Body::Free | Body::Separation { .. } | Body::Palette | Body::Program => true,
             Body::CalGray {
@@ -67,6 +73,9 @@ impl Body {
                 range: [amin, amax, bmin, bmax],
             } => points_hold(white, black) && amin <= amax && bmin <= bmax,
             Body::Indexed { hival, .. } => *hival <= 255,
+            Body::DeviceN { count, .. } => {
+                packed_names(names, *count).is_some_and(|names| names_differ(&names))
+            }
         }
     }
 
@@ -83,9 +92,9 @@ impl Body {
     }
 
     /// The refusal of a record's own numbers, 4 before 5: "a number breaks a clause rule", "a gamma or exponent is
-    /// beyond the house limit".
-    pub fn number_refusal(&self) -> Option<u32> {
-        if !self.clause_holds() {
+    /// beyond the house limit". The bytes are those from byte 8 of its block on, where the names of a DeviceN stand.
+    pub fn number_refusal(&self, names: &[u8]) -> Option<u32> {
+        if !self.clause_holds(names) {
             Some(4)
         } else if !self.house_holds() {
             Some(5)
@@ -109,6 +118,7 @@ impl Record {
         let bytes_hold = match self.body {
             Body::Palette | Body::Program => true,
             Body::Separation { name_length, .. } => name_holds(name, name_length) && zero(rest),
+            Body::DeviceN { count, .. } => packed_names(&self.bytes, count).is_some(),
             _ => zero(&self.bytes),
         };
         usize::from(self.number) < MOST_BLOCKS && bytes_hold
@@ -118,7 +128,7 @@ impl Record {
     pub(super) fn refusal(&self) -> Option<u32> {
         if !self.form_holds() {
             Some(3)
-        } else if let Some(number) = self.body.number_refusal() {
+        } else if let Some(number) = self.body.number_refusal(&self.bytes[..NAMES]) {
             Some(number)
         } else if !self.body.reference_holds() {
             Some(6)

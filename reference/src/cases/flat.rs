@@ -333,9 +333,9 @@ fn steps(maker: &mut Maker) {
     }
 }
 
-/// "1,084 words run, 1,085 are 11."
+/// "The limit of 1,084 words becomes 2,877": 2,877 words run, 2,878 are 11.
 fn long(maker: &mut Maker) {
-    for count in [1045, 1046, 1083, 1084, 1085, 1086] {
+    for count in [1045, 1046, 1083, 1084, 1085, 1086, 2876, 2877, 2878, 2879] {
         let negs = count - 5;
         let words = [&[1, 12, 1, negs as i32][..], &vec![18; negs], &[4]].concat();
         maker.run(

@@ -121,6 +121,7 @@ pub(super) fn numbers_of(body: &Body) -> Vec<i32> {
             let small = [*exponent, *name_length].map(i32::from);
             [&[i32::from(*alternate)][..], &small, c0, c1].concat()
         }
+        Body::DeviceN { alternate, count } => vec![i32::from(*alternate), i32::from(*count)],
     }
 }
 

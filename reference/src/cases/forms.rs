@@ -26,7 +26,8 @@ fn raw_blocks(maker: &mut Maker) {
         let block = changed(lay(record).to_vec(), 0, |block| block[at] = byte);
         maker.read(label, &block);
     };
-    put("kind 8", &free(0), 0, 8);
+    put("kind 8 with no names", &free(0), 0, 8);
+    put("kind 9", &free(0), 0, 9);
     put("kind 255", &free(0), 0, 255);
     put("a free block with byte 1", &free(0), 1, 1);
     put("a palette block with byte 1", &palette(0, &[1]), 1, 255);
@@ -55,8 +56,8 @@ fn raw_blocks(maker: &mut Maker) {
     let mut two = lay(&free(0));
     two[1] = 1;
     maker.read("byte 1 and the check not made anew, 2 before 3", &two);
-    two[0] = 8;
-    maker.read("kind 8 and the check not made anew, 2 before 3", &two);
+    two[0] = 9;
+    maker.read("kind 9 and the check not made anew, 2 before 3", &two);
     maker.read("a block of bytes FF", &[0xff; BLOCK]);
     // The two sums are kept, and exchanged.
     let mut exchanged = lay(&cal_gray(0, ONE));

@@ -3,7 +3,7 @@
 use super::format::{
     answer_text, dotted, float_text, hex_of, numbers_of, refusal_text, reply_text, Case,
 };
-use crate::block::{read_block, write_block, Body, Record, BLOCK, BODY, NAME};
+use crate::block::{read_block, write_block, Body, Record, BLOCK, BODY, NAME, NAMES};
 use crate::cie::{cal_gray, cal_rgb, lab, Answer};
 use crate::colour::evaluate;
 use crate::gamma::{decode, tenths};
@@ -134,6 +134,10 @@ pub(super) fn record_of(args: &[i32], given: &[u8]) -> Option<Record> {
         },
         (6, []) => Body::Palette,
         (7, []) => Body::Program,
+        (8, &[alternate, count]) => Body::DeviceN {
+            alternate: two(alternate)?,
+            count: small(count)?,
+        },
         _ => return None,
     };
     let mut bytes = [0; BODY];
@@ -157,6 +161,7 @@ fn read_text(block: &[u8]) -> String {
     }
     match record.body {
         Body::Separation { .. } => text + " x" + &dotted(&record.bytes[..NAME]),
+        Body::DeviceN { .. } => text + " x" + &dotted(&record.bytes[..NAMES]),
         Body::Palette | Body::Program => text + " x" + &dotted(&record.bytes),
         _ => text,
     }

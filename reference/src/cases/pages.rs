@@ -380,7 +380,7 @@ fn limits(maker: &mut Maker) {
     maker.validate("a zero byte in a name on a page", &name(9, 0));
     maker.validate("byte 135 of a Separation", &name(135, 1));
     maker.validate("byte 168 of a Separation", &name(168, 1));
-    maker.validate("kind 8 on a page", &changed(all_free(1), 0, |b| b[0] = 8));
+    maker.validate("kind 9 on a page", &changed(all_free(1), 0, |b| b[0] = 9));
     let mut check = all_free(2);
     check[508..510].fill(0xff);
     maker.validate("FFFF where check 0 is due, on a page", &check);

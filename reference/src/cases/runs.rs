@@ -196,6 +196,21 @@ fn least_runs(maker: &mut Maker) {
             vec![4, 6],
             &[0; 5],
         ),
+        (
+            "nine components for a recipe of eight, 9",
+            vec![8, 6],
+            &[0; 9],
+        ),
+        (
+            "value 7 limited with one component",
+            vec![1, 1, 7, ONE, ONE, 6],
+            &[0],
+        ),
+        (
+            "value 7 limited with eight components",
+            vec![8, 1, 7, 0, ONE, 6],
+            &[1, 2, 3, 4, 5, 6, 7, 2 * ONE],
+        ),
         ("11 before 9", vec![1, 4, 4], &[]),
         (
             "the last words are read before 9 is given",
@@ -211,7 +226,7 @@ fn least_runs(maker: &mut Maker) {
 /// Recipes about as long as may be.
 fn long_runs(maker: &mut Maker) {
     // About the longest recipe that a page has, and about the longest of all.
-    for (limits, rows) in [258, 268]
+    for (limits, rows) in [258, 268, 716]
         .into_iter()
         .flat_map(|n| (5..10).map(move |h| (n, h)))
     {
@@ -238,6 +253,14 @@ fn long_runs(maker: &mut Maker) {
         let label = format!("256 rows of four, then {} words", end.len());
         maker.run(&label, &words, &[255 * ONE]);
     }
+    // Rows of up to eight entries, each picked in turn and shown as CMYK.
+    for m in 5..=8 {
+        let entries: Vec<i32> = (0..2 * m).map(|v| v * ONE).collect();
+        let words = [&[1, 2, m, 1][..], &entries, &[6]].concat();
+        for v in [0, ONE] {
+            maker.run(&format!("two rows of {m}, row {}", v / ONE), &words, &[v]);
+        }
+    }
 }
 
 /// Recipes that are ill-formed, each beside a colour of the count that it names.
@@ -248,12 +271,14 @@ fn ill_formed(maker: &mut Maker) {
     let ill: Vec<(&str, Vec<i32>)> = vec![
         ("no words at all", vec![]),
         ("input count 0", vec![0, 4]),
-        ("input count 5", vec![5, 4]),
+        ("input count 9", vec![9, 4]),
         ("input count -1", vec![-1, 4]),
         ("the least input count", vec![i32::MIN, 4]),
         ("an input count alone", vec![1]),
         ("step 0", vec![1, 0]),
         ("step 12", vec![1, 12]),
+        ("step 13", vec![1, 13]),
+        ("step 14", vec![1, 14]),
         ("step -4", vec![1, -4]),
         ("two closing steps", vec![1, 4, 4]),
         ("a word after the closing step", vec![1, 4, 0]),
@@ -261,10 +286,13 @@ fn ill_formed(maker: &mut Maker) {
         ("no closing step", vec![1, 1, 0, 0, 1]),
         ("a limit cut short", vec![1, 1, 0, 0]),
         ("a limit of value -1", vec![1, 1, -1, 0, 1, 4]),
-        ("a limit of value 4", vec![1, 1, 4, 0, 1, 4]),
+        ("a limit of value 8", vec![1, 1, 8, 0, 1, 4]),
         ("a limit with lo > hi", vec![1, 1, 0, 1, 0, 4]),
         ("rows of no entry", vec![1, 2, 0, 0, 4]),
-        ("rows of five entries", vec![1, 2, 5, 0, 1, 2, 3, 4, 5, 4]),
+        (
+            "rows of nine entries",
+            vec![1, 2, 9, 0, 1, 2, 3, 4, 5, 6, 7, 8, 9, 4],
+        ),
         ("h -1", vec![1, 2, 1, -1, 4]),
         ("h 256", rows(256, 257)),
         ("h 255 and an entry less", rows(255, 255)),

@@ -1,6 +1,7 @@
 //! The cases are well-formed, say what the paper says, and reach every refusal.
 
 mod calculators;
+mod devices;
 
 use super::format::{answer_text, bytes_of, decimal, numbers_of, reply_text};
 use super::interpreter::{record_of, words_of};
@@ -60,6 +61,8 @@ fn the_cases_are_well_formed() {
     assert_eq!(ops(&programs::cases()), [30, 31, 32, 33, 34]);
     assert_eq!(ops(&program_pages::cases()), [20, 21, 30, 31, 32, 33, 34]);
     assert_eq!(ops(&flat::cases()), [33]);
+    assert_eq!(ops(&devicen::cases()), [20, 21, 30, 31, 32, 33, 34]);
+    assert_eq!(ops(&taking::cases()), [33]);
     assert_eq!(input_text(&cases).lines().count(), cases.len());
     assert_eq!(output_text(&cases).lines().count(), cases.len());
 }
@@ -402,12 +405,12 @@ fn group_replies_worked_by_hand() {
         ),
         (
             33,
-            "a run of 1085 words, the most being 1084",
+            "a run of 2878 words, the most being 2877",
             "refused 11 block 0",
         ),
         (
             33,
-            "a run of 1084 words, the most being 1084",
+            "a run of 2877 words, the most being 2877",
             "Gray 3ed4f8b588e368f1",
         ),
         (

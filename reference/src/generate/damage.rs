@@ -167,7 +167,7 @@ fn check(v: &mut Victim<'_>) {
 }
 
 fn kind(v: &mut Victim<'_>) {
-    let kinds = if v.rng.once_in(2) { 8 } else { 256 };
+    let kinds = if v.rng.once_in(2) { 10 } else { 256 };
     let kind = v.rng.below(kinds) as u8;
     v.byte_repaired(v.any, 0, kind);
 }
@@ -211,7 +211,7 @@ fn exponent(v: &mut Victim<'_>) {
 }
 
 fn reference(v: &mut Victim<'_>) {
-    let at = v.block_of_kind(&[4, 5]);
+    let at = v.block_of_kind(&[4, 5, 8]);
     let other = v.rng.below(v.count()) as u16;
     let (count, most) = (v.count() as u16, MOST_BLOCKS as u16);
     let blocks = [at as u16, other, other, other, count, most - 1, most];
@@ -290,7 +290,7 @@ fn range(v: &mut Victim<'_>) {
 }
 
 fn stray_palette(v: &mut Victim<'_>) {
-    let at = v.block_of_kind(&[0, 1, 2, 3, 5]);
+    let at = v.block_of_kind(&[0, 1, 2, 3, 5, 8]);
     v.byte_repaired(at, 0, 6);
 }
 

@@ -1,5 +1,6 @@
 //! Accepted records and pages of random spaces.
 
+use super::device_n::{packed, random_names};
 use super::programs::random_program;
 use super::Rng;
 use crate::block::{
@@ -31,19 +32,59 @@ enum Plan {
     },
     /// A part of a program's text.
     Text(Vec<u8>),
+    /// A DeviceN of these names over a program that leaves m numbers.
+    DeviceN {
+        names: Vec<Vec<u8>>,
+        m: usize,
+    },
+}
+
+/// Which records with programs a page has.
+#[derive(Clone, Copy, PartialEq, Eq)]
+pub(super) enum Tints {
+    /// None.
+    Plain,
+    /// Separations.
+    Programs,
+    /// Separations, and more of DeviceN.
+    DeviceN,
+}
+
+/// A record with a program, and the parts of its text.
+fn plan_program(rng: &mut Rng, tints: Tints) -> Vec<Plan> {
+    let m = rng.pick(&[1, 1, 3, 4], 1);
+    let (record, taken) = if tints == Tints::DeviceN && !rng.once_in(4) {
+        let names = random_names(rng);
+        let taken = names.len();
+        (Plan::DeviceN { names, m }, taken)
+    } else {
+        (Plan::Calculator { m }, 1)
+    };
+    let text = random_program(rng, taken, m);
+    let parts = text.chunks(BODY).map(|part| Plan::Text(part.to_vec()));
+    [record].into_iter().chain(parts).collect()
+}
+
+/// How many components the base of an Indexed space has: 1, 3 or 4, or as many as a DeviceN that is there has names.
+fn planned_base(rng: &mut Rng, plan: &[Plan]) -> usize {
+    let mut counts = vec![1, 1, 3, 3, 4];
+    for block in plan {
+        if let Plan::DeviceN { names, .. } = block {
+            counts.extend([names.len(); 3]);
+        }
+    }
+    rng.pick(&counts, 1)
 }
 
 /// Lays out a page of this many blocks: which is meant for what, palettes and programs straight after their block.
-fn plan_of(rng: &mut Rng, count: usize, programs: bool) -> Vec<Plan> {
+fn plan_of(rng: &mut Rng, count: usize, tints: Tints) -> Vec<Plan> {
     let mut plan = Vec::new();
     while plan.len() < count {
         let left = count - plan.len() - 1;
-        if programs && rng.once_in(3) {
-            let m = rng.pick(&[1, 1, 3, 4], 1);
-            let text = random_program(rng, m);
-            if text.len().div_ceil(BODY) <= left {
-                plan.push(Plan::Calculator { m });
-                plan.extend(text.chunks(BODY).map(|part| Plan::Text(part.to_vec())));
+        if tints != Tints::Plain && rng.once_in(3) {
+            let run = plan_program(rng, tints);
+            if run.len() <= left + 1 {
+                plan.extend(run);
                 continue;
             }
         }
@@ -54,7 +95,7 @@ fn plan_of(rng: &mut Rng, count: usize, programs: bool) -> Vec<Plan> {
             3 => plan.push(Plan::Lab),
             4 | 5 => plan.push(Plan::Separation),
             _ => {
-                let m = rng.pick(&[1, 1, 3, 3, 4], 1);
+                let m = planned_base(rng, &plan);
                 let wanted = match rng.below(4) {
                     0 => 255,
                     1 => rng.below(5),
@@ -79,7 +120,7 @@ fn plan_of(rng: &mut Rng, count: usize, programs: bool) -> Vec<Plan> {
     plan
 }
 
-/// The references that an Indexed base or a Separation's alternate may have on a page so laid out.
+/// The references that an Indexed base, or the alternate of a Separation or DeviceN, may have on a page so laid out.
 fn references(plan: &[Plan], m: Option<usize>, separations: bool) -> Vec<u16> {
     let mut found = Vec::new();
     let fits = |count: usize| m.is_none() || m == Some(count);
@@ -97,6 +138,7 @@ fn references(plan: &[Plan], m: Option<usize>, separations: bool) -> Vec<u16> {
             Plan::CalGray => 1,
             Plan::CalRgb | Plan::Lab => 3,
             Plan::Separation | Plan::Calculator { .. } if separations => 1,
+            Plan::DeviceN { names, .. } if separations => names.len(),
             _ => continue,
         };
         if fits(count) {
@@ -231,6 +273,15 @@ fn random_record(rng: &mut Rng, plan: &[Plan], number: u16) -> Record {
                 c1: [0; 4],
             }
         }
+        Some(Plan::DeviceN { names, m }) => {
+            let alternates = references(plan, Some(m), false);
+            let packed = packed(&names);
+            bytes[..packed.len()].copy_from_slice(&packed);
+            Body::DeviceN {
+                alternate: rng.pick(&alternates, DEVICE_GRAY),
+                count: names.len() as u8,
+            }
+        }
         Some(Plan::Text(text)) => {
             bytes[..text.len()].copy_from_slice(&text);
             Body::Program
@@ -252,7 +303,7 @@ fn random_record(rng: &mut Rng, plan: &[Plan], number: u16) -> Record {
 /// A record of this own number and of any kind that is accepted by itself.
 /// It has no page: its references are device codes or the number of any block.
 pub fn random_lone_record(rng: &mut Rng, number: u16) -> Record {
-    let here = match rng.below(7) {
+    let here = match rng.below(8) {
         0 => Plan::Free,
         1 => Plan::CalGray,
         2 => Plan::CalRgb,
@@ -262,6 +313,10 @@ pub fn random_lone_record(rng: &mut Rng, number: u16) -> Record {
             hival: rng.below(256) as u16,
         },
         5 => Plan::Separation,
+        6 => Plan::DeviceN {
+            names: random_names(rng),
+            m: 1,
+        },
         _ => Plan::Palette {
             used: rng.below(BODY + 1),
         },
@@ -270,6 +325,7 @@ pub fn random_lone_record(rng: &mut Rng, number: u16) -> Record {
     let anywhere = rng.below(MOST_BLOCKS) as u16;
     match &mut record.body {
         Body::Indexed { base, .. } if rng.once_in(2) => *base = anywhere,
+        Body::DeviceN { alternate, .. } if rng.once_in(2) => *alternate = anywhere,
         Body::Separation {
             alternate, c0, c1, ..
         } if rng.once_in(2) => {
@@ -284,12 +340,12 @@ pub fn random_lone_record(rng: &mut Rng, number: u16) -> Record {
 
 /// An accepted page of exactly this many blocks (taken into 1..`MOST_BLOCKS`), of random spaces.
 pub fn random_page_of(rng: &mut Rng, count: usize) -> Vec<u8> {
-    page_of(rng, count, false)
+    page_of(rng, count, Tints::Plain)
 }
 
 /// The same, with or without spaces over programs.
-pub(super) fn page_of(rng: &mut Rng, count: usize, programs: bool) -> Vec<u8> {
-    let plan = plan_of(rng, count.clamp(1, MOST_BLOCKS), programs);
+pub(super) fn page_of(rng: &mut Rng, count: usize, tints: Tints) -> Vec<u8> {
+    let plan = plan_of(rng, count.clamp(1, MOST_BLOCKS), tints);
     let mut page = vec![0; BLOCK * plan.len()];
     for (number, block) in (0u16..).zip(page.chunks_exact_mut(BLOCK)) {
         let record = random_record(rng, &plan, number);

@@ -13,6 +13,7 @@ pub use pages::{
     damage_program_page, damage_program_page_by, random_lone_program_record, random_program_page,
     random_program_page_of, PROGRAM_PAGE_WAYS,
 };
+pub(in crate::generate) use pages::{lay_text, run_length};
 
 use super::Rng;
 use crate::block::BODY;
@@ -41,8 +42,8 @@ pub enum Shape {
     High,
 }
 
-/// A text that is accepted over an alternate of so many components, at most four blocks long.
-pub fn random_program(rng: &mut Rng, left: usize) -> Vec<u8> {
+/// A text that takes so many tints and is accepted over an alternate of so many components, at most four blocks long.
+pub fn random_program(rng: &mut Rng, taken: usize, left: usize) -> Vec<u8> {
     let shape = match rng.below(12) {
         0..=3 => Shape::About(rng.below(12)),
         4..=7 => Shape::About(rng.below(60)),
@@ -51,13 +52,13 @@ pub fn random_program(rng: &mut Rng, left: usize) -> Vec<u8> {
         10 => Shape::Nested,
         _ => Shape::High,
     };
-    random_program_of(rng, left, shape)
+    random_program_of(rng, taken, left, shape)
 }
 
-/// A text of this shape that is accepted over an alternate of so many components.
-pub fn random_program_of(rng: &mut Rng, left: usize, shape: Shape) -> Vec<u8> {
+/// A text of this shape that takes so many tints and is accepted over an alternate of so many components.
+pub fn random_program_of(rng: &mut Rng, taken: usize, left: usize, shape: Shape) -> Vec<u8> {
     loop {
-        let words = words_of_tree(&random_tree(rng, left, shape));
+        let words = words_of_tree(&random_tree(rng, taken, left, shape));
         let text = spelled(rng, &words);
         if text.len() <= MOST_TEXT {
             return text;
@@ -66,18 +67,24 @@ pub fn random_program_of(rng: &mut Rng, left: usize, shape: Shape) -> Vec<u8> {
 }
 
 /// The tokens of an accepted program that has at most so many, 100 or more.
-fn random_words(rng: &mut Rng, left: usize, most: usize) -> Words {
-    let about = rng.below(50);
-    words_of_tree(&random_tree_within(rng, left, Shape::About(about), most))
+fn random_words(rng: &mut Rng, taken: usize, left: usize, most: usize) -> Words {
+    let shape = Shape::About(rng.below(50));
+    words_of_tree(&random_tree_within(rng, taken, left, shape, most))
 }
 
-/// A program of this shape that is accepted over an alternate of so many components.
-pub fn random_tree(rng: &mut Rng, left: usize, shape: Shape) -> Program {
-    random_tree_within(rng, left, shape, MOST_TOKENS)
+/// A program of this shape that takes so many tints and is accepted over an alternate of so many components.
+pub fn random_tree(rng: &mut Rng, taken: usize, left: usize, shape: Shape) -> Program {
+    random_tree_within(rng, taken, left, shape, MOST_TOKENS)
 }
 
 /// The same with another bound on the tokens, the outer pair among them.
-fn random_tree_within(rng: &mut Rng, left: usize, shape: Shape, most: usize) -> Program {
+fn random_tree_within(
+    rng: &mut Rng,
+    taken: usize,
+    left: usize,
+    shape: Shape,
+    most: usize,
+) -> Program {
     let mut wish = match shape {
         Shape::About(wish) => wish,
         Shape::Tokens(count) => count / 2,
@@ -85,7 +92,7 @@ fn random_tree_within(rng: &mut Rng, left: usize, shape: Shape, most: usize) -> 
     };
     loop {
         let mut maker = Maker {
-            kinds: vec![Kind::Number],
+            kinds: vec![Kind::Number; taken],
             items: Vec::new(),
             tokens: 0,
             depth: 1,

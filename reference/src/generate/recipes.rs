@@ -2,20 +2,25 @@
 
 use super::pages::random_range;
 use super::{random_component, Rng};
+use crate::numbers::VALUES;
+use crate::recipe::MOST_WORDS;
+
+/// The greatest count of values, and the place after the last.
+const MOST: i32 = VALUES as i32;
 
 /// A well-formed recipe of random steps that no page need have: limits of any value, palettes and tints
 /// in any order, any number where the paper sets no bound.
 pub fn random_recipe(rng: &mut Rng) -> Vec<i32> {
-    let mut words = vec![rng.between(1, 4)];
-    // The longest step made here has 407 words and the longest closing one 13, so 1084 are not passed.
+    let mut words = vec![rng.between(1, MOST)];
+    // The longest step made here has 811 words and the longest closing one 13, so the most words are not passed.
     while words.len() < 500 && !rng.once_in(4) {
         match rng.below(3) {
             0 => {
                 let [lo, hi] = random_range(rng);
-                words.extend([1, rng.between(0, 3), lo, hi]);
+                words.extend([1, rng.between(0, MOST - 1), lo, hi]);
             }
             1 => {
-                let m = rng.between(1, 4);
+                let m = rng.between(1, MOST);
                 let h = rng.pick(&[0, 1, 2, 3, 9, 100], 0);
                 words.extend([2, m, h]);
                 words.extend((0..m * (h + 1)).map(|_| random_component(rng)));
@@ -54,9 +59,9 @@ pub(super) fn random_closing(rng: &mut Rng) -> Vec<i32> {
 pub fn long_recipe(rng: &mut Rng, length: usize) -> Vec<i32> {
     let closing = random_closing(rng);
     let steps = length.saturating_sub(closing.len());
-    let mut words = vec![rng.between(1, 4)];
+    let mut words = vec![rng.between(1, MOST)];
     // A palette that leaves room for the steps below, as large as may be or smaller.
-    let m = rng.between(1, 4);
+    let m = rng.between(1, MOST);
     let most = (steps as i32 - 20) / m - 1;
     if most >= 0 && !rng.once_in(4) {
         let h = rng.pick(&[255, 255, 251, 3], 255).min(most);
@@ -69,7 +74,7 @@ pub fn long_recipe(rng: &mut Rng, length: usize) -> Vec<i32> {
     }
     while words.len() < steps {
         let [lo, hi] = random_range(rng);
-        words.extend([1, rng.between(0, 3), lo, hi]);
+        words.extend([1, rng.between(0, MOST - 1), lo, hi]);
     }
     words.extend(closing);
     words
@@ -81,7 +86,7 @@ pub fn damage_recipe(rng: &mut Rng, words: &mut Vec<i32>) {
     let at = rng.below(words.len());
     let word = match rng.below(4) {
         0 => rng.number(),
-        1 => rng.between(-1, 12),
+        1 => rng.between(-1, 14),
         2 => rng.near_gamma(),
         _ => rng.gamma() + rng.between(-1, 1),
     };
@@ -97,7 +102,7 @@ pub fn damage_recipe(rng: &mut Rng, words: &mut Vec<i32>) {
         2 => words.insert(at, word),
         3 => words.truncate(at),
         _ => {
-            let more = rng.pick(&[1, 2, 1084, 5000], 1);
+            let more = rng.pick(&[1, 2, MOST_WORDS, 5000], 1);
             words.extend((0..more).map(|_| word));
         }
     }

@@ -32,33 +32,44 @@ pub fn program_text(page: &[u8], record: u32) -> Option<Vec<u8>> {
     (!run.is_empty() && zeros_only && none_empty).then(|| text.to_vec())
 }
 
-/// The program after a record whose alternate this is. "16 .., 17 .., in this order after 6 and before 7; program blocks
-/// .. ill filled or missing (no 16 or 17 then) are 7, a run's fault being its record's".
-pub fn judged_program(page: &[u8], record: u32, alternate: u16) -> Result<Program, u32> {
-    let text = program_text(page, record).ok_or(7u32)?;
-    let left = components(page, u32::from(alternate)).unwrap_or(0);
-    judge(&text, left)
-}
-
-/// The program of the Separation that a number asks for; none where there is none, or none that is accepted.
-pub fn program_at(page: &[u8], number: u32) -> Option<Program> {
-    match body_at(page, number) {
-        Some(Body::Separation {
+/// How many tints the program of a record takes, and the record's alternate; none for a record that has no program. A
+/// Separation has one where its exponent is 0, a DeviceN always, "taking all tints".
+pub fn program_of(body: &Body) -> Option<(usize, u16)> {
+    match *body {
+        Body::Separation {
             alternate,
             exponent: 0,
             ..
-        }) => judged_program(page, number, alternate).ok(),
+        } => Some((1, alternate)),
+        Body::DeviceN { alternate, count } => Some((usize::from(count), alternate)),
         _ => None,
     }
 }
 
-/// Whether a block of kind 7 is in the run of a record with exponent 0 before it; else it is stray.
+/// The program after a record that has so many tints and this alternate. "16 .., 17 .., in this order after 6 and before
+/// 7; program blocks .. ill filled or missing (no 16 or 17 then) are 7, a run's fault being its record's".
+pub fn judged_program(
+    page: &[u8],
+    record: u32,
+    tints: usize,
+    alternate: u16,
+) -> Result<Program, u32> {
+    let text = program_text(page, record).ok_or(7u32)?;
+    let left = components(page, u32::from(alternate)).unwrap_or(0);
+    judge(&text, tints, left)
+}
+
+/// The program of the Separation or DeviceN that a number asks for; none where there is none, or none that is accepted.
+pub fn program_at(page: &[u8], number: u32) -> Option<Program> {
+    let (tints, alternate) = program_of(&body_at(page, number)?)?;
+    judged_program(page, number, tints, alternate).ok()
+}
+
+/// Whether a block of kind 7 is in the run of a record before it that has a program; else it is stray.
 pub(super) fn in_a_program_run(page: &[u8], number: usize) -> bool {
     let has_run = |record: usize| {
-        matches!(
-            body_at(page, record as u32),
-            Some(Body::Separation { exponent: 0, .. })
-        )
+        let body = body_at(page, record as u32);
+        body.is_some_and(|body| program_of(&body).is_some())
     };
     (0..number).any(|record| has_run(record) && number <= record + run_of(page, record).len())
 }

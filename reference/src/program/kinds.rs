@@ -16,10 +16,10 @@ pub enum Kind {
 /// The kinds on the stack, the deepest first.
 pub type Kinds = Vec<Kind>;
 
-/// "The program takes one limited tint and leaves the alternate's count of numbers"; where it does not, or a count or a
-/// kind is wrong on the way, 17 is due.
-pub fn leaves(program: &[Item], left: usize) -> bool {
-    after(program, vec![Kind::Number]) == Some(vec![Kind::Number; left])
+/// "The program takes one limited tint", or so many of them, "and leaves the alternate's count of numbers"; where it does
+/// not, or a count or a kind is wrong on the way, 17 is due.
+pub fn leaves(program: &[Item], taken: usize, left: usize) -> bool {
+    after(program, vec![Kind::Number; taken]) == Some(vec![Kind::Number; left])
 }
 
 /// The kinds after a program or a branch; none where 17 is due: "17 stack, kind, or a count missing, not whole, below 0

@@ -14,10 +14,10 @@ pub enum Value {
     Truth(bool),
 }
 
-/// The numbers that a program leaves of a limited tint, "the first deepest"; none where it sticks or leaves a truth
-/// value, which no judged program does.
-pub fn results(program: &[Item], tint: i32) -> Option<Vec<i32>> {
-    let mut stack = vec![Value::Number(tint)];
+/// The numbers that a program leaves of limited tints, "the first deepest" in both; none where it sticks or leaves a
+/// truth value, which no judged program does.
+pub fn results(program: &[Item], tints: &[i32]) -> Option<Vec<i32>> {
+    let mut stack: Vec<Value> = tints.iter().map(|tint| Value::Number(*tint)).collect();
     run(program, &mut stack)?;
     let number = |value: &Value| match value {
         Value::Number(v) => Some(*v),

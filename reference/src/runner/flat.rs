@@ -1,4 +1,4 @@
-//! Flat forms, the words of step 12: whether they are well-formed, and running them. By the table of codes in
+//! Flat forms, the words of steps 12 and 13: whether they are well-formed, and running them. By the table of codes in
 //! docs/RECIPES.md.
 //!
 //! "A flat form is 11 exactly for other words than these, a height below 0, past 100 or not fixed somewhere (as where no
@@ -99,19 +99,19 @@ impl Places {
     }
 }
 
-/// Whether words are a flat form that leaves just so many numbers.
-pub fn holds(words: &[i32], left: usize) -> bool {
-    end_kinds(words).is_some_and(|end| end == vec![b'n'; left])
+/// Whether words are a flat form that takes so many values and leaves just so many numbers.
+pub fn holds(words: &[i32], taken: usize, left: usize) -> bool {
+    end_kinds(words, taken).is_some_and(|end| end == vec![b'n'; left])
 }
 
 /// The stack's kinds at the end of a flat form; none where it is refused before. "Since jumps go forward alone, one pass
 /// over the words is enough."
-fn end_kinds(words: &[i32]) -> Option<Letters> {
+fn end_kinds(words: &[i32], taken: usize) -> Option<Letters> {
     let mut places = Places {
         kinds: vec![None; words.len() + 1],
     };
-    // The stack holds "value 0, limited to 0..1000000, alone".
-    places.come(0, &vec![b'n'])?;
+    // The stack holds "value 0, limited to 0..1000000, alone", or as many values as step 13 takes.
+    places.come(0, &vec![b'n'; taken])?;
     let mut at = 0;
     while at < words.len() {
         let end = at + length(words[at])?;
@@ -162,9 +162,9 @@ fn of_two(code: i32, x: i64, y: i64) -> i64 {
     }
 }
 
-/// The numbers that a well-formed flat form leaves of a limited tint, the deepest first. Kinds need not be looked at.
-pub fn run(words: &[i32], tint: i32) -> Vec<i32> {
-    let mut stack = vec![i64::from(tint)];
+/// The numbers that a well-formed flat form leaves of limited tints, the deepest first. Kinds need not be looked at.
+pub fn run(words: &[i32], tints: &[i32]) -> Vec<i32> {
+    let mut stack: Vec<i64> = tints.iter().map(|tint| i64::from(*tint)).collect();
     let mut left = words;
     while let [code, rest @ ..] = left {
         let pop = |stack: &mut Vec<i64>| stack.pop().unwrap_or(0);

@@ -126,14 +126,15 @@ fn kinds(stack: Vec<Held>) -> Vec<Held> {
     stack.into_iter().map(forgotten).collect()
 }
 
-/// Whether words are a flat form that leaves so many numbers: to each place just one stack of kinds comes.
-pub fn holds(words: &[i32], left: usize) -> bool {
+/// Whether words are a flat form that takes so many values and leaves so many numbers: to each place just one stack of
+/// kinds comes.
+pub fn holds(words: &[i32], taken: usize, left: usize) -> bool {
     let Some(starts) = starts(words) else {
         return false;
     };
     let end = words.len();
     let mut come: Vec<BTreeSet<Vec<Held>>> = vec![BTreeSet::new(); end + 1];
-    come[0].insert(vec![Held::Number(0)]);
+    come[0].insert(vec![Held::Number(0); taken]);
     for pair in starts.windows(2) {
         let (at, next) = (pair[0], pair[1]);
         let item = &words[at..next];
@@ -166,9 +167,9 @@ pub fn holds(words: &[i32], left: usize) -> bool {
     one_each && come[end].contains(&vec![Held::Number(0); left])
 }
 
-/// The numbers that a flat form leaves; none where it sticks.
-pub fn run(words: &[i32], tint: i32) -> Option<Vec<i32>> {
-    let mut stack = vec![Held::Number(tint.into())];
+/// The numbers that a flat form leaves of tints; none where it sticks.
+pub fn run(words: &[i32], tints: &[i32]) -> Option<Vec<i32>> {
+    let mut stack: Vec<Held> = tints.iter().map(|v| Held::Number((*v).into())).collect();
     let mut at = 0;
     while at < words.len() {
         let next = at + length(words[at])?;

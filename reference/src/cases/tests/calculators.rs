@@ -97,10 +97,15 @@ fn program_replies_worked_by_hand() {
         ),
         (
             33,
-            "a program in a run of 1084 words",
+            "a program in a run of 2876 words",
             "Gray bfe0000000000000",
         ),
-        (33, "a program in a run of 1085 words", "refused 11 block 0"),
+        (
+            33,
+            "a program in a run of 2877 words",
+            "Gray 3fe0000000000000",
+        ),
+        (33, "a program in a run of 2878 words", "refused 11 block 0"),
     ] {
         assert_eq!(reply_of(op, label), expected, "{label}");
     }
@@ -111,7 +116,7 @@ fn program_replies_worked_by_hand() {
 fn program_cases_say_what_they_show() {
     for case in super::all() {
         let reply = case.result().unwrap();
-        if case.label.starts_with("flat 11") || case.label.starts_with("ill-formed, step 12") {
+        if case.label.starts_with("flat 11") || case.label.starts_with("ill-formed, step 1") {
             assert_eq!(reply, "refused 11 block 0", "{}", case.label);
         } else if case.op == 33 && case.label.starts_with("flat") {
             assert!(reply.starts_with("CMYK"), "{}", case.label);

@@ -37,18 +37,29 @@ const TABLE: [(&str, u32, Way); PROGRAM_WAYS] = [
     ("another count of numbers left", 17, left_over),
 ];
 
-/// A text over an alternate of so many components that is refused, its refusal, and the damage in a few words.
-pub fn damaged_program(rng: &mut Rng, left: usize) -> (Vec<u8>, u32, &'static str) {
+/// A text of so many tints over an alternate of so many components that is refused, its refusal, and the damage in a few
+/// words.
+pub fn damaged_program(rng: &mut Rng, taken: usize, left: usize) -> (Vec<u8>, u32, &'static str) {
     let way = rng.below(PROGRAM_WAYS);
-    damaged_program_by(rng, left, way)
+    damaged_program_by(rng, taken, left, way)
 }
 
 /// The same in the way of this number, 0 up to but not including `PROGRAM_WAYS`.
-pub fn damaged_program_by(rng: &mut Rng, left: usize, way: usize) -> (Vec<u8>, u32, &'static str) {
+pub fn damaged_program_by(
+    rng: &mut Rng,
+    taken: usize,
+    left: usize,
+    way: usize,
+) -> (Vec<u8>, u32, &'static str) {
     let (name, refusal, way) = TABLE[way % PROGRAM_WAYS];
+    // These count on a stack of one tint, so the others are taken off before them.
+    let alone = name == "a stack below 0" || name == "a count below 0 or past the stack";
     loop {
-        let mut words = random_words(rng, left, 200);
+        let mut words = random_words(rng, if alone { 1 } else { taken }, left, 200);
         way(rng, &mut words);
+        if alone {
+            put(&mut words, 1, vec![plain(b"pop"); taken - 1]);
+        }
         let text = spelled(rng, &words);
         if text.len() <= MOST_TEXT {
             return (text, refusal, name);
@@ -188,7 +199,7 @@ fn put_anywhere(rng: &mut Rng, words: &mut Words, more: Words) {
     put(words, at, more);
 }
 
-/// Puts one of a few groups of tokens in behind the first brace, where the stack holds the tint alone.
+/// Puts one of a few groups of tokens in behind the first brace, where the stack holds the tints.
 fn put_first(rng: &mut Rng, words: &mut Words, groups: &[&[u8]]) {
     let group = rng.pick(groups, b"");
     put(words, 1, tokens(group));

@@ -1,24 +1,25 @@
-//! Random flat forms, the words of step 12: right ones, some with jumps that no tree has, damaged ones, and recipes with
+//! Random flat forms, the words of steps 12 and 13: right ones, some with jumps that no tree has, damaged ones, and recipes with
 //! them.
 
 use super::{random_item, random_literal, random_tree, Maker, Shape, COMPARISONS};
 use crate::generate::recipes::random_closing;
 use crate::generate::{damage_recipe, random_recipe, Rng};
+use crate::numbers::VALUES;
 use crate::program::kinds::{after, Kind, Kinds};
 use crate::program::{words_of, Item, Op, MOST_HEIGHT};
 use crate::recipe::MOST_WORDS;
 
-/// A well-formed flat form that leaves so many numbers: a program's, or one whose jumps cross.
-pub fn random_flat(rng: &mut Rng, left: usize) -> Vec<i32> {
+/// A well-formed flat form that takes so many values and leaves so many numbers: a program's, or one whose jumps cross.
+pub fn random_flat(rng: &mut Rng, taken: usize, left: usize) -> Vec<i32> {
     if rng.once_in(2) {
         let about = rng.below(40);
         let shape = rng.pick(
             &[Shape::About(about), Shape::About(about), Shape::Nested],
             Shape::Nested,
         );
-        words_of(&random_tree(rng, left, shape))
+        words_of(&random_tree(rng, taken, left, shape))
     } else {
-        crossed(rng, left)
+        crossed(rng, taken, left)
     }
 }
 
@@ -53,29 +54,50 @@ pub fn damage_flat(rng: &mut Rng, words: &mut Vec<i32>) {
     }
 }
 
-/// A well-formed recipe with one step 12 or more among its others.
+/// A step 12, or a step 13 of so many values, with a random flat form; what it takes may be more than the input count.
+fn random_program_step(rng: &mut Rng) -> Vec<i32> {
+    let left = 1 + rng.below(4);
+    let taken = if rng.once_in(2) {
+        1 + rng.below(VALUES)
+    } else {
+        1
+    };
+    let flat = random_flat(rng, taken, left);
+    let mut step = vec![13, taken as i32, left as i32, flat.len() as i32];
+    if taken == 1 && !rng.once_in(4) {
+        step = vec![12, left as i32, flat.len() as i32];
+    }
+    step.extend(flat);
+    step
+}
+
+/// A well-formed recipe with one step 12 or 13 or more among its others.
 pub fn random_program_recipe(rng: &mut Rng) -> Vec<i32> {
     let mut words = random_recipe(rng);
     // Behind the input count, so that the steps after it read its results.
     for _ in 0..1 + rng.below(2) {
-        let left = 1 + rng.below(4);
-        let flat = random_flat(rng, left);
-        if words.len() + 3 + flat.len() <= MOST_WORDS {
-            let step = [vec![12, left as i32, flat.len() as i32], flat].concat();
+        let step = random_program_step(rng);
+        if words.len() + step.len() <= MOST_WORDS {
             words.splice(1..1, step);
         }
     }
     words
 }
 
-/// A step 12 and a closing step of exactly this many words in all, 30 or more, with the input count before them. It is a
+/// A step 12 or 13 and a closing step of exactly this many words in all, 30 or more, with the input count before them. It is a
 /// recipe where that is no more than the most words that a recipe has.
 pub fn long_program_recipe(rng: &mut Rng, length: usize) -> Vec<i32> {
     let closing = random_closing(rng);
-    let count = length.saturating_sub(4 + closing.len());
-    let mut flat = random_flat(rng, 1);
+    let taken = 1 + rng.below(VALUES);
+    let head = match rng.once_in(2) {
+        true => vec![12],
+        false => vec![13, taken as i32],
+    };
+    let taken = if head == [12] { 1 } else { taken };
+    let count = length.saturating_sub(3 + head.len() + closing.len());
+    let mut flat = random_flat(rng, taken, 1);
     if flat.len() > count {
-        flat.clear();
+        flat = vec![23; taken - 1];
     }
     while flat.len() < count {
         match count - flat.len() {
@@ -83,28 +105,36 @@ pub fn long_program_recipe(rng: &mut Rng, length: usize) -> Vec<i32> {
             _ => flat.extend(rng.pick(&[[18, 19], [25, 23], [2, 0], [6, 0]], [18, 18])),
         }
     }
-    let input = rng.between(1, 4);
-    [vec![input, 12, 1, count as i32], flat, closing].concat()
+    let input = rng.between(1, VALUES as i32);
+    [vec![input], head, vec![1, count as i32], flat, closing].concat()
 }
 
-/// Breaks a recipe with steps 12 in one of many ways: as any recipe, or a word of its first step 12.
+/// Breaks a recipe with steps 12 or 13 in one of many ways: as any recipe, or a word of its first such step.
 pub fn damage_program_recipe(rng: &mut Rng, words: &mut Vec<i32>) {
-    let (Some(12), Some(&n)) = (words.get(1), words.get(3)) else {
+    // Where the flat form begins, behind the word that has its count.
+    let begin = match words.get(1) {
+        Some(12) => 4,
+        Some(13) => 5,
+        _ => return damage_recipe(rng, words),
+    };
+    let Some(&n) = words.get(begin - 1) else {
         return damage_recipe(rng, words);
     };
-    let end = (4 + n.max(0) as usize).min(words.len());
-    match rng.below(4) {
+    let end = (begin + n.max(0) as usize).min(words.len());
+    match rng.below(5) {
         0 => damage_recipe(rng, words),
         1 => {
-            let place = 2 + rng.below(2);
+            let place = 2 + rng.below(begin - 2);
             words[place] = words[place].wrapping_add(rng.between(-1, 1));
         }
+        // Another count taken, which the flat form most often does not fit.
+        2 if begin == 5 => words[2] = rng.between(-1, VALUES as i32 + 1),
         _ => {
-            let mut flat = words[4.min(end)..end].to_vec();
+            let mut flat = words[begin.min(end)..end].to_vec();
             damage_flat(rng, &mut flat);
             // The count of words follows, so that the fault is the flat form's own.
-            words[3] = flat.len() as i32;
-            words.splice(4.min(end)..end, flat);
+            words[begin - 1] = flat.len() as i32;
+            words.splice(begin.min(end)..end, flat);
         }
     }
 }
@@ -144,9 +174,9 @@ struct Row {
 }
 
 /// A flat form with jumps from any place to any later one that has the same kinds.
-fn crossed(rng: &mut Rng, left: usize) -> Vec<i32> {
+fn crossed(rng: &mut Rng, taken: usize, left: usize) -> Vec<i32> {
     let mut maker = Maker {
-        kinds: vec![Kind::Number],
+        kinds: vec![Kind::Number; taken],
         items: Vec::new(),
         tokens: 0,
         depth: 1,
@@ -157,7 +187,7 @@ fn crossed(rng: &mut Rng, left: usize) -> Vec<i32> {
         maker.add(item);
     }
     maker.mend(rng, &vec![Kind::Number; left]);
-    let mut row = Row::of(&maker.items);
+    let mut row = Row::of(&maker.items, taken);
     for place in 0..row.items.len() {
         row.test_for_pop(rng, place);
     }
@@ -172,9 +202,9 @@ fn crossed(rng: &mut Rng, left: usize) -> Vec<i32> {
 }
 
 impl Row {
-    /// The row of these items, none of them a branch.
-    fn of(items: &[Item]) -> Row {
-        let mut kinds = vec![vec![Kind::Number]];
+    /// The row of these items, none of them a branch, over so many values.
+    fn of(items: &[Item], taken: usize) -> Row {
+        let mut kinds = vec![vec![Kind::Number; taken]];
         for item in items {
             let last = kinds.last().cloned().unwrap_or_default();
             kinds.push(after(std::slice::from_ref(item), last).unwrap_or_default());

@@ -3,8 +3,9 @@
 use super::{damage_program_text, damaged_program, random_program, MOST_TEXT};
 use crate::block::{Body, Record, BLOCK, BODY, BODY_AT, DEVICE_CMYK, DEVICE_GRAY, DEVICE_RGB};
 use crate::generate::damage::Victim;
-use crate::generate::pages::{page_of, random_count};
+use crate::generate::pages::{page_of, random_count, Tints};
 use crate::generate::{random_lone_record, Rng};
+use crate::numbers::VALUES;
 use crate::page::{program_text, MOST_PROGRAM_BLOCKS};
 
 /// How many ways `damage_program_page` knows.
@@ -13,7 +14,7 @@ pub const PROGRAM_PAGE_WAYS: usize = 18;
 /// A way to break a page that has programs.
 type Way = fn(&mut Victim<'_>, usize);
 
-/// Every way, with its name in a few words. Each is given the block of a record with exponent 0.
+/// Every way, with its name in a few words. Each is given the block of a record that has a program.
 const TABLE: [(&str, Way); PROGRAM_PAGE_WAYS] = [
     ("a program missing", missing),
     ("a program's block made free", block_free),
@@ -47,7 +48,7 @@ pub fn random_lone_program_record(rng: &mut Rng, number: u16) -> Record {
             *body = Body::Program;
             if rng.once_in(2) {
                 record.bytes = [0; BODY];
-                let text = random_program(rng, 1);
+                let text = random_program(rng, 1, 1);
                 for (place, byte) in record.bytes.iter_mut().zip(text) {
                     *place = byte;
                 }
@@ -59,13 +60,13 @@ pub fn random_lone_program_record(rng: &mut Rng, number: u16) -> Record {
 
 /// An accepted page of exactly this many blocks (taken into 1..`MOST_BLOCKS`), of random spaces, many of them over programs.
 pub fn random_program_page_of(rng: &mut Rng, count: usize) -> Vec<u8> {
-    page_of(rng, count, true)
+    page_of(rng, count, Tints::Programs)
 }
 
 /// An accepted page of 1 to `MOST_BLOCKS` blocks, of random spaces, many of them over programs.
 pub fn random_program_page(rng: &mut Rng) -> Vec<u8> {
     let count = random_count(rng);
-    page_of(rng, count, true)
+    page_of(rng, count, Tints::Programs)
 }
 
 /// Breaks a page that has programs in one of many ways and says which in a few words. Without a program most ways leave
@@ -81,7 +82,7 @@ pub fn damage_program_page_by(rng: &mut Rng, page: &mut Vec<u8>, way: usize) -> 
     let found: Vec<usize> = page
         .chunks_exact(BLOCK)
         .enumerate()
-        .filter(|(_, block)| block[0] == 5 && block[6] == 0)
+        .filter(|(_, block)| block[0] == 8 || block[0] == 5 && block[6] == 0)
         .map(|(number, _)| number)
         .collect();
     let any = rng.below(page.len() / BLOCK);
@@ -91,7 +92,7 @@ pub fn damage_program_page_by(rng: &mut Rng, page: &mut Vec<u8>, way: usize) -> 
 }
 
 /// How many blocks of kind 7 stand straight after a record, up to four.
-fn run_length(v: &Victim<'_>, record: usize) -> usize {
+pub(in crate::generate) fn run_length(v: &Victim<'_>, record: usize) -> usize {
     (1..=MOST_PROGRAM_BLOCKS)
         .take_while(|step| v.byte(record + step, 0) == 7)
         .count()
@@ -104,7 +105,7 @@ fn run_block(v: &mut Victim<'_>, record: usize) -> usize {
 }
 
 /// Lays another text into the blocks of a run, as far as it goes, and zeros after it.
-fn lay_text(v: &mut Victim<'_>, record: usize, text: &[u8]) {
+pub(in crate::generate) fn lay_text(v: &mut Victim<'_>, record: usize, text: &[u8]) {
     let length = run_length(v, record);
     for place in 0..length * BODY {
         let byte = text.get(place).copied().unwrap_or(0);
@@ -112,6 +113,14 @@ fn lay_text(v: &mut Victim<'_>, record: usize, text: &[u8]) {
     }
     for block in record + 1..=record + length {
         v.repair(block);
+    }
+}
+
+/// How many tints the program of a record takes: a DeviceN's count of names, where it is one, and 1 for any other.
+fn taken_of(v: &Victim<'_>, record: usize) -> usize {
+    match v.byte(record, 0) {
+        8 => usize::from(v.byte(record, 6)).clamp(1, VALUES),
+        _ => 1,
     }
 }
 
@@ -167,7 +176,7 @@ fn block_zeros(v: &mut Victim<'_>, record: usize) {
 }
 
 fn stray(v: &mut Victim<'_>, _: usize) {
-    let block = v.block_of_kind(&[0, 1, 2, 3, 5, 6]);
+    let block = v.block_of_kind(&[0, 1, 2, 3, 5, 6, 8]);
     let text = v.rng.once_in(2);
     v.byte_repaired(block, 0, 7);
     if text {
@@ -210,7 +219,8 @@ fn text_byte(v: &mut Victim<'_>, record: usize) {
 }
 
 fn refused(v: &mut Victim<'_>, record: usize) {
-    let (text, _, _) = damaged_program(v.rng, left_of(v, record));
+    let (taken, left) = (taken_of(v, record), left_of(v, record));
+    let (text, _, _) = damaged_program(v.rng, taken, left);
     lay_text(v, record, &text);
 }
 

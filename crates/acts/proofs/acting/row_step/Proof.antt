@@ -4,7 +4,7 @@ use Prim.Native.Nat.{_*_, _≤_}
 use native.Mathlib.Omega.{arith}
 use mir.Syntax.{w32}
 use mir.Val.{toZ, ofZ}
-use Rattle.fixed.specs.Values.{value}
+use Rattle.fixed.specs.Values.{places, value}
 use Rattle.fixed.proofs.Signs.{signed-within}
 use Rattle.fixed.proofs.Listed.{index-le}
 use Rattle.fixed.proofs.Steps.{row-made}
@@ -14,7 +14,7 @@ use Rattle.acts.proofs.acting.row_step.Statement.{statement}
 use Rattle.acts.proofs.acting.row_step.Tie as tie
 
 -- the entries of the rows before the one that is picked
-before-row : (c : tie.After-index-of) → let entry = c .before .before .before in c .index-of .result .row * entry .args .m ≤ 1020
+before-row : (c : tie.After-index-of) → let entry = c .before .before .before in c .index-of .result .row * entry .args .m ≤ 255 * places
 before-row c =
     let entry = c .before .before .before in
     let a = entry .args in

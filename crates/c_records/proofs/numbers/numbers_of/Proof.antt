@@ -51,6 +51,12 @@ enum-told-3 c = search needs
 bare-numbers-requires-3 : tie.Need-bare-numbers-requires-3
 bare-numbers-requires-3 c κs = search needs
 
+enum-known-y-6 : tie.Need-enum-known-y-6
+enum-known-y-6 c = search needs
+
+device-n-numbers-requires : tie.Need-device-n-numbers-requires
+device-n-numbers-requires c κs = search needs
+
 returns : tie.Need-returns
 returns c = rw (c .before .enum-told .given .1) (c .bare-numbers .ensures)
 
@@ -75,6 +81,9 @@ returns-7 c = rw (c .before .enum-told2 .given .1) (c .bare-numbers2 .ensures)
 returns-8 : tie.Need-returns-8
 returns-8 c = rw (c .before .enum-told3 .given .1) (c .bare-numbers3 .ensures)
 
+returns-9 : tie.Need-returns-9
+returns-9 c = rw (c .before .before .y6 .given .1) (c .device-n-numbers .ensures)
+
 pub numbers-of-spec : {M : Type 1} → statement M
 numbers-of-spec =
     tie.close
@@ -95,11 +104,11 @@ numbers-of-spec =
     bare-numbers-requires-2
     enum-told-3
     bare-numbers-requires-3
-    returns
+    enum-known-y-6 device-n-numbers-requires returns
     returns-2
     returns-3
     returns-4
     returns-5
     returns-6
     returns-7
-    returns-8)
+    returns-8 returns-9)

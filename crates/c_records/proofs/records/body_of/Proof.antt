@@ -22,6 +22,9 @@ indexed-of-requires c κs = search needs
 ink-of-requires : tie.Need-ink-of-requires
 ink-of-requires c κs = search needs
 
+device-n-of-requires : tie.Need-device-n-of-requires
+device-n-of-requires c κs = search needs
+
 returns : tie.Need-returns
 unfolding bodyOf
 returns c = rw (c .before .match .keys1) (ap CalGray (c .gray-of .ensures))
@@ -52,11 +55,15 @@ returns-7 c = rw (c .match .keys7)
 
 returns-8 : tie.Need-returns-8
 unfolding bodyOf
-returns-8 c = let r = c .match .rest in
-    eq-no _ 1 _ _ _ refl (r .0 .0 .0 .0 .0 .0 .1)
-    (eq-no _ 2 _ _ _ refl (r .0 .0 .0 .0 .0 .1)
-    (eq-no _ 3 _ _ _ refl (r .0 .0 .0 .0 .1)
-    (eq-no _ 4 _ _ _ refl (r .0 .0 .0 .1) (eq-no _ 5 _ _ _ refl (r .0 .0 .1) (eq-no _ 6 _ _ _ refl (r .0 .1) (eq-no _ 7 _ _ _ refl (r .1) refl))))))
+returns-8 c = rw (c .before .match .keys8) (c .device-n-of .ensures)
+
+returns-9 : tie.Need-returns-9
+unfolding bodyOf
+returns-9 c = let r = c .match .rest in
+    eq-no _ 1 _ _ _ refl (r .0 .0 .0 .0 .0 .0 .0 .1)
+    (eq-no _ 2 _ _ _ refl (r .0 .0 .0 .0 .0 .0 .1)
+    (eq-no _ 3 _ _ _ refl (r .0 .0 .0 .0 .0 .1)
+    (eq-no _ 4 _ _ _ refl (r .0 .0 .0 .0 .1) (eq-no _ 5 _ _ _ refl (r .0 .0 .0 .1) (eq-no _ 6 _ _ _ refl (r .0 .0 .1) (eq-no _ 7 _ _ _ refl (r .0 .1) (eq-no _ 8 _ _ _ refl (r .1) refl)))))))
 
 pub body-of-spec : {M : Type 1} → statement M
 body-of-spec =
@@ -67,6 +74,7 @@ body-of-spec =
     lab-of-requires
     indexed-of-requires
     ink-of-requires
+    device-n-of-requires
     returns
     returns-2
     returns-3
@@ -74,4 +82,5 @@ body-of-spec =
     returns-5
     returns-6
     returns-7
-    returns-8)
+    returns-8
+    returns-9)

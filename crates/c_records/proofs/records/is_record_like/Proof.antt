@@ -24,7 +24,7 @@ returns c =
     let v = now (c .before .before .before .args .v) in
     let kind = c .before .before .small-at in
     let zero = c .is-zero-from .ensures ∙ ap (zeroFrom v) (c .before .named-count .ensures v) in
-    (λ i. leb (kind .result) 7 && zero i) ∙ ap (λ (k : ℕ). leb k 7 && zeroFrom v (namedCount (bodyOf k v))) (kind .ensures)
+    (λ i. leb (kind .result) 8 && zero i) ∙ ap (λ (k : ℕ). leb k 8 && zeroFrom v (namedCount (bodyOf k v))) (kind .ensures)
 
 pub is-record-like-spec : {M : Type 1} → statement M
 is-record-like-spec =

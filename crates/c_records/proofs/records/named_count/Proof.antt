@@ -30,12 +30,16 @@ returns-5 c = λ v. rw (c .match .keys5)
 
 returns-6 : tie.Need-returns-6
 unfolding bodyOf
-returns-6 c = λ v.
+returns-6 c = λ v. rw (c .match .keys6)
+
+returns-7 : tie.Need-returns-7
+unfolding bodyOf
+returns-7 c = λ v.
     let r = c .match .rest in
-    simp (ne-eqb _ _ (r .1), ne-eqb _ _ (r .0 .1), ne-eqb _ _ (r .0 .0 .1), ne-eqb _ _ (r .0 .0 .0 .1), ne-eqb _ _ (r .0 .0 .0 .0 .1))
+    simp (ne-eqb _ _ (r .1), ne-eqb _ _ (r .0 .1), ne-eqb _ _ (r .0 .0 .1), ne-eqb _ _ (r .0 .0 .0 .1), ne-eqb _ _ (r .0 .0 .0 .0 .1), ne-eqb _ _ (r .0 .0 .0 .0 .0 .1))
     (cond-ind (λ (y : Body). 2 ≡ namedCount y) (eqb (c .before .args .kind) 6) (λ _. refl)
     (λ _. cond-ind (λ (y : Body). 2 ≡ namedCount y) (eqb (c .before .args .kind) 7) (λ _. refl) (λ _. refl)))
 
 pub named-count-spec : {M : Type 1} → statement M
 named-count-spec =
-    tie.close (tie.spec returns returns-2 returns-3 returns-4 returns-5 returns-6)
+    tie.close (tie.spec returns returns-2 returns-3 returns-4 returns-5 returns-6 returns-7)

@@ -26,7 +26,7 @@ unfolding refusalOf
 returns c =
     let at-compile = c .before .before .before in
     let entry = at-compile .before .before .before in
-    judged-none _ _ (readOf (entry .args .text .now)) (at-compile .compile .ensures .0) (entry .args .count) (c .enum-told .given .1)
+    judged-none _ _ (readOf (entry .args .text .now)) (at-compile .compile .ensures .0) (entry .args .taken) (entry .args .count) (c .enum-told .given .1)
 
 slice-aggregate-judge-form : tie.Need-slice-aggregate-judge-form
 slice-aggregate-judge-form c = search needs
@@ -43,7 +43,7 @@ returns-2 c =
     let at-b = c .before .before .before in
     let at-compile = at-b .before .before .before in
     let entry = at-compile .before .before .before in
-    judged-words _ _ (readOf (entry .args .text .now)) (at-compile .compile .ensures .0) (entry .args .count) _ (at-b .b .given .1) (omega (arith, ap sizeBy (at-b .b .given .1), at-compile .compile .ensures .1)) _ (c .judge-form .ensures)
+    judged-words _ _ (readOf (entry .args .text .now)) (at-compile .compile .ensures .0) (entry .args .taken) (entry .args .count) _ (at-b .b .given .1) (omega (arith, ap sizeBy (at-b .b .given .1), at-compile .compile .ensures .1)) _ (c .judge-form .ensures)
 
 pub judge-spec : {M : Type 1} → statement M
 judge-spec =

@@ -38,7 +38,7 @@ judge-run-returns : (t : ℕ) → judge-run-lts.Need-returns (claims t) (judge-r
 judge-run-returns t c =
     let after-if1 = c .before in
     let a = after-if1 .before .before .args in
-    c .judge-run .ensures ∙ ap (refusalOf (a .count)) (sym (run-first (a .page .now) (a .n) (a .blocks) (after-if1 .if1 .taken)))
+    c .judge-run .ensures ∙ ap (refusalOf (a .taken) (a .count)) (sym (run-first (a .page .now) (a .n) (a .blocks) (after-if1 .if1 .taken)))
 
 judge-run-run-size-requires : (t : ℕ) → judge-run-lts.Need-run-size-requires (claims t) (judge-run-at t) judge-run.Post
 judge-run-run-size-requires t c κs = search needs
@@ -65,7 +65,7 @@ judge-run-returns-2 t c =
     let at-run-size = at-gather .before .before in
     let entry = at-run-size .before .before .before in
     let text = at-gather .gather .ensures ∙ ap (textOf (entry .args .page .now) (entry .args .n)) (at-run-size .run-size .ensures .0) in
-    c .judge .ensures ∙ ap (refusalOf (entry .args .count)) text
+    c .judge .ensures ∙ ap (refusalOf (entry .args .taken) (entry .args .count)) text
 
 pub +judge-run-spec : {M : Type 1} → statement M
 +judge-run-spec = close μ-judge-run λ t. judge-run-lts.spec (claims t)

@@ -35,7 +35,7 @@ returns c =
     let at-gather = c .before .before .before in
     let at-run-size = at-gather .before .before in
     let entry = at-run-size .before .before in
-    c .step .ensures ∙ ap (λ (l : List ℕ). programStep (entry .args .count) (codeIn (readOf l)) (entry .args .c)) (at-gather .gather .ensures ∙ ap (textOf (entry .args .page .now) (entry .args .n)) (at-run-size .run-size .ensures .0))
+    c .step .ensures ∙ ap (λ (l : List ℕ). programStep (entry .args .taken) (entry .args .count) (codeIn (readOf l)) (entry .args .c)) (at-gather .gather .ensures ∙ ap (textOf (entry .args .page .now) (entry .args .n)) (at-run-size .run-size .ensures .0))
 
 pub step-run-spec : {M : Type 1} → statement M
 step-run-spec =

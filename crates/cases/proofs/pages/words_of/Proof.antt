@@ -1,16 +1,17 @@
 -- The words are a part of the numbers read.
 use mathlib.Core.Path.{_≡_}
-use Prim.Native.Nat.{_≤_, _-_}
+use Prim.Native.Nat.{_≤_, _-_, _+_}
 use lib.ListN.{length}
 use borrow.Author.Needs.{needs}
+use Rattle.fixed.specs.Sizes.{longest}
 use Rattle.cases.proofs.pages.words_of.Statement.{statement}
 use Rattle.cases.proofs.pages.words_of.Tie as tie
 
 abbrev Inv-loop : tie.InvT-loop
-Inv-loop s out₀ i₀ out i = (length out ≡ length out₀) × (i ≤ 1200)
+Inv-loop s out₀ i₀ out i = (length out ≡ length out₀) × (i ≤ longest + 16)
 
 abbrev μ-loop : tie.MeasureT-loop
-μ-loop s out₀ i₀ out i = 1201 - i
+μ-loop s out₀ i₀ out i = longest + 17 - i
 
 loop-holds : tie.Need-loop-holds Inv-loop μ-loop
 loop-holds c = search needs

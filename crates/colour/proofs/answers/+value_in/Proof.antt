@@ -2,10 +2,11 @@
 use mathlib.Core.Path.{ap, _∙_}
 use native.Mathlib.Omega.{arith}
 use Rattle.fixed.proofs.Signs.{signed-within}
+use Rattle.cie.specs.Closings.{closedBy}
 use Rattle.cie.proofs.Closes.{closes}
 use Rattle.space.specs.Levels.{plainIn, rankIn}
 use Rattle.space.proofs.Ends.{whatever}
-use Rattle.colour.proofs.Replies.{value-plain, value-separation, value-calculated, value-indexed}
+use Rattle.colour.proofs.Replies.{value-plain, value-blank, wide-count, value-separation, value-calculated, value-indexed}
 use borrow.Author.Needs.{needs}
 use Prim.Native.Nat.{ℕ, _<_}
 use borrow.Fn.Kinds.{In}
@@ -71,6 +72,9 @@ value-in-array-copy-out-close-4 t c = search needs
 value-in-close-requires : (t : ℕ) → value-in-lts.Need-close-requires (claims t) (value-in-at t) value-in.Post
 value-in-close-requires t c κs = search needs
 
+value-in-enum-told : (t : ℕ) → value-in-lts.Need-enum-told (claims t) (value-in-at t) value-in.Post
+value-in-enum-told t c = search needs
+
 value-in-enum-known-l-2 : (t : ℕ) → value-in-lts.Need-enum-known-l-2 (claims t) (value-in-at t) value-in.Post
 value-in-enum-known-l-2 t c = search needs
 
@@ -81,7 +85,11 @@ value-in-count-requires : (t : ℕ) → value-in-lts.Need-count-requires (claims
 value-in-count-requires t c κs = search needs
 
 value-in-tint-requires : (t : ℕ) → value-in-lts.Need-tint-requires (claims t) (value-in-at t) value-in.Post
-value-in-tint-requires t c κs = search needs
+value-in-tint-requires t c κs =
+    let after-plain-at = c .before in
+    let after-l2 = after-plain-at .before .before in
+    let page = after-l2 .before .before .before .args .page .now in
+    wide-count page (after-l2 .l2 .given .0 .0 .alternate) (c .count .ensures .0 page) (after-plain-at .plain-at .ensures .0)
 
 value-in-value-in-requires : (t : ℕ) → value-in-lts.Need-value-in-requires (claims t) (value-in-at t) value-in.Post
 value-in-value-in-requires t c κs =
@@ -144,17 +152,21 @@ value-in-returns t c =
     (u .ensures (plainIn k q) (record { low = after-plain-lows .plain-lows .ensures; high = after-plain-highs .plain-highs .ensures }))
 
 value-in-returns-2 : (t : ℕ) → value-in-lts.Need-returns-2 (claims t) (value-in-at t) value-in.Post
-value-in-returns-2 t c = c .value-in .ensures ∙ value-separation _ _ _ (c .before .before .before .before .before .l2 .given .1) (c .before .before .before .plain-at .ensures .0) (c .before .before .count .ensures .0 _) (c .before .tint .ensures)
+unfolding closedBy
+value-in-returns-2 t c = value-blank _ _ _ (c .enum-told .given .1)
 
 value-in-returns-3 : (t : ℕ) → value-in-lts.Need-returns-3 (claims t) (value-in-at t) value-in.Post
-value-in-returns-3 t c =
+value-in-returns-3 t c = c .value-in .ensures ∙ value-separation _ _ _ (c .before .before .before .before .before .l2 .given .1) (c .before .before .before .plain-at .ensures .0) (c .before .before .count .ensures .0 _) (c .before .tint .ensures)
+
+value-in-returns-4 : (t : ℕ) → value-in-lts.Need-returns-4 (claims t) (value-in-at t) value-in.Post
+value-in-returns-4 t c =
     let after-count = c .before .before in
     let after-plain-at = after-count .before in
     let after-l3 = after-plain-at .before .before in
-    c .value-in2 .ensures ∙ value-calculated _ _ _ _ (after-l3 .l3 .given .1) (after-plain-at .plain-at2 .ensures .0) (after-count .count2 .ensures .0 _) (c .before .calculate .ensures)
+    c .value-in2 .ensures ∙ value-calculated _ _ _ _ _ (after-l3 .l3 .given .1) (after-plain-at .plain-at2 .ensures .0) (after-count .count2 .ensures .0 _) (c .before .calculate .ensures)
 
-value-in-returns-4 : (t : ℕ) → value-in-lts.Need-returns-4 (claims t) (value-in-at t) value-in.Post
-value-in-returns-4 t c = c .value-in3 .ensures ∙ value-indexed _ _ _ _ _ (c .before .before .before .before .l4 .given .1) (c .before .before .tinted-at .ensures .0) (c .before .pick-row .ensures)
+value-in-returns-5 : (t : ℕ) → value-in-lts.Need-returns-5 (claims t) (value-in-at t) value-in.Post
+value-in-returns-5 t c = c .value-in3 .ensures ∙ value-indexed _ _ _ _ _ (c .before .before .before .before .l4 .given .1) (c .before .before .tinted-at .ensures .0) (c .before .pick-row .ensures)
 
 pub +value-in-spec : {M : Type 1} → statement M
 +value-in-spec = close μ-value-in λ t. value-in-lts.spec (claims t)
@@ -170,6 +182,7 @@ pub +value-in-spec : {M : Type 1} → statement M
     (value-in-array-copy-out-close-3 t)
     (value-in-array-copy-out-close-4 t)
     (value-in-close-requires t)
+    (value-in-enum-told t)
     (value-in-enum-known-l-2 t)
     (value-in-plain-at-requires t)
     (value-in-count-requires t)
@@ -188,3 +201,4 @@ pub +value-in-spec : {M : Type 1} → statement M
     (value-in-returns-2 t)
     (value-in-returns-3 t)
     (value-in-returns-4 t)
+    (value-in-returns-5 t)

@@ -56,6 +56,12 @@ enum-told-3 c = search needs
 put-run-requires-2 : tie.Need-put-run-requires-2
 put-run-requires-2 c κs = search needs
 
+enum-known-y-6 : tie.Need-enum-known-y-6
+enum-known-y-6 c = search needs
+
+put-device-n-requires : tie.Need-put-device-n-requires
+put-device-n-requires c κs = search needs
+
 same-length : tie.Need-same-length
 same-length c = search needs
 
@@ -138,6 +144,16 @@ returns-8 c =
     let start = at-enum-told3 .before .before .before in
     at-put-run2 .put-run2 .ensures ∙ (λ i. puts (now (start .args .out)) 4 (body (sym (at-enum-told3 .enum-told3 .given .1) i) (now (start .args .s)) ++ rest (sym (at-enum-told3 .enum-told3 .given .1) i)))
 
+same-length-9 : tie.Need-same-length-9
+same-length-9 c = search needs
+
+returns-9 : tie.Need-returns-9
+returns-9 c =
+    let at-put-device-n = c .before .before in
+    let at-y6 = at-put-device-n .before .before .before in
+    let start = at-y6 .before .before .before in
+    at-put-device-n .put-device-n .ensures ∙ (λ i. puts (now (start .args .out)) 4 (body (sym (at-y6 .y6 .given .1) i) (now (start .args .s)) ++ rest (sym (at-y6 .y6 .given .1) i)))
+
 pub put-body-spec : {M : Type 1} → statement M
 put-body-spec =
     tie.close
@@ -158,6 +174,8 @@ put-body-spec =
     put-run-requires
     enum-told-3
     put-run-requires-2
+    enum-known-y-6
+    put-device-n-requires
     same-length
     returns
     same-length-2
@@ -173,4 +191,6 @@ put-body-spec =
     same-length-7
     returns-7
     same-length-8
-    returns-8)
+    returns-8
+    same-length-9
+    returns-9)

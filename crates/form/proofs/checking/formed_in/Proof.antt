@@ -1,4 +1,4 @@
--- One number comes to the first place of an empty table; at the end the kinds are compared with as many zeros.
+-- So many numbers come to the first place of an empty table; at the end the kinds are compared with as many zeros.
 use mathlib.Core.Path.{_∙_, ap}
 use mathlib.Core.List.{List}
 use native.Mathlib.Omega.{arith}
@@ -7,6 +7,7 @@ use lib.IntN.{pos}
 use lib.ListN.{length, replicate}
 use Rattle.stack.specs.Memory.{stackOf}
 use Rattle.stack.specs.Stack.{sameKinds}
+use Rattle.fixed.specs.Values.{widest}
 use Rattle.form.specs.Paths.{comes, formed}
 use Rattle.form.specs.Table.{bitsOf, placesFrom}
 use Rattle.form.proofs.Forms.{zeros-low, form-right, form-wrong}
@@ -23,7 +24,7 @@ slice-aggregate-arrive c = search needs
 arrive-requires : tie.Need-arrive-requires
 arrive-requires c κs =
     let entry = c .before .before .before in
-    (search needs, search needs, search needs, zeros-low (entry .args .t .now) (entry .pre .2))
+    (search needs, search needs, search needs, zeros-low (entry .args .t .now) (entry .pre .3))
 
 slice-aggregate-check : tie.Need-slice-aggregate-check
 slice-aggregate-check c = search needs
@@ -64,7 +65,7 @@ returns c =
     let at-check = at-if1 .before .before .before .before in
     let at-arrive = at-check .before .before .before .before .before in
     let entry = at-arrive .before .before .before .before in
-    form-right (length (entry .args .t .now)) 100 (length (entry .args .words .now)) (at-arrive .arrive .result) (at-arrive .arrive .last .0) (at-arrive .arrive .ensures .0 ∙ ap (λ (l : List ℕ). comes (bitsOf (stackOf (replicate 100 (pos 0)) 1)) 0 (placesFrom l 0 (length (entry .args .words .now) + 1))) (entry .pre .2)) (entry .args .words .now) (at-check .check .result) (at-check .check .last .1 .0) (at-check .check .ensures) (entry .args .count) (at-if1 .if1 .taken) 4 (c .alike .result) (c .alike .ensures ∙ ap (sameKinds (bitsOf (stackOf (replicate 4 (pos 0)) (entry .args .count)))) (at-load .load .ensures))
+    form-right (length (entry .args .t .now)) 100 (entry .args .taken) (length (entry .args .words .now)) (at-arrive .arrive .result) (at-arrive .arrive .last .0) (at-arrive .arrive .ensures .0 ∙ ap (λ (l : List ℕ). comes (bitsOf (stackOf (replicate 100 (pos 0)) (entry .args .taken))) 0 (placesFrom l 0 (length (entry .args .words .now) + 1))) (entry .pre .3)) (entry .args .words .now) (at-check .check .result) (at-check .check .last .1 .0) (at-check .check .ensures) (entry .args .count) (at-if1 .if1 .taken) widest (c .alike .result) (c .alike .ensures ∙ ap (sameKinds (bitsOf (stackOf (replicate widest (pos 0)) (entry .args .count)))) (at-load .load .ensures))
 
 same-length-2 : tie.Need-same-length-2
 same-length-2 c = search needs
@@ -75,7 +76,7 @@ returns-2 c =
     let at-check = c .before .before .before .before in
     let at-arrive = at-check .before .before .before .before .before in
     let entry = at-arrive .before .before .before .before in
-    form-wrong (length (entry .args .t .now)) 100 (length (entry .args .words .now)) (at-arrive .arrive .result) (at-arrive .arrive .last .0) (at-arrive .arrive .ensures .0 ∙ ap (λ (l : List ℕ). comes (bitsOf (stackOf (replicate 100 (pos 0)) 1)) 0 (placesFrom l 0 (length (entry .args .words .now) + 1))) (entry .pre .2)) (entry .args .words .now) (at-check .check .result) (at-check .check .last .1 .0) (at-check .check .ensures) (entry .args .count) (c .if1 .left)
+    form-wrong (length (entry .args .t .now)) 100 (entry .args .taken) (length (entry .args .words .now)) (at-arrive .arrive .result) (at-arrive .arrive .last .0) (at-arrive .arrive .ensures .0 ∙ ap (λ (l : List ℕ). comes (bitsOf (stackOf (replicate 100 (pos 0)) (entry .args .taken))) 0 (placesFrom l 0 (length (entry .args .words .now) + 1))) (entry .pre .3)) (entry .args .words .now) (at-check .check .result) (at-check .check .last .1 .0) (at-check .check .ensures) (entry .args .count) (c .if1 .left)
 
 pub formed-in-spec : {M : Type 1} → statement M
 formed-in-spec =

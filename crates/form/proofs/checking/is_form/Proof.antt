@@ -1,15 +1,21 @@
 -- The three tests of the definition, in their order.
-use mathlib.Core.Path.{_∙_}
-use native.Mathlib.Omega.{arith}
+use mathlib.Core.Path.{_≡_, _∙_}
+use mathlib.Core.Bool.{true, _&&_}
 use lib.Dec.{leb}
 use borrow.Author.Tests.{le-leb, lt-leb, leb-true}
-use Rattle.fixed.proofs.Decide.{and-right}
+use Rattle.fixed.specs.Values.{places, widest, fills, makes}
+use Rattle.fixed.proofs.Decide.{and-left, and-right}
 use Rattle.form.specs.Steps.{wellFormed}
 use Rattle.form.proofs.checking.is_form.Statement.{statement}
 use Rattle.form.proofs.checking.is_form.Tie as tie
 
 is-well-formed-requires : tie.Need-is-well-formed-requires
-is-well-formed-requires c κs = (c .if2 .taken, omega (arith, leb-true (c .before .before .args .count) 4 (and-right (leb 1 (c .before .before .args .count)) (leb (c .before .before .args .count) 4) (c .before .if1 .taken))))
+is-well-formed-requires c κs =
+    let a = c .before .before .args in
+    let e : (fills (a .taken) && makes (a .count)) ≡ true = c .before .if1 .taken in
+    let f = and-left (fills (a .taken)) (makes (a .count)) e in
+    let g = and-right (fills (a .taken)) (makes (a .count)) e in
+    (c .if2 .taken, leb-true (a .taken) places (and-right (leb 1 (a .taken)) (leb (a .taken) places) f), leb-true (a .count) widest (and-right (leb 1 (a .count)) (leb (a .count) widest) g))
 
 returns : tie.Need-returns
 unfolding wellFormed

@@ -30,10 +30,10 @@ abbrev claims : ℕ → is-form-at-lts.Claims
 claims t = (is-form-at-below t, is-form-at.Post, is-form-reads.Asked, is-form-reads.Learnt)
 
 is-form-at-returns : (t : ℕ) → is-form-at-lts.Need-returns (claims t) (is-form-at-at t) is-form-at.Post
-is-form-at-returns t c = form-past _ _ _ _ (omega arith)
+is-form-at-returns t c = form-past _ _ _ _ _ (omega arith)
 
 is-form-at-returns-2 : (t : ℕ) → is-form-at-lts.Need-returns-2 (claims t) (is-form-at-at t) is-form-at.Post
-is-form-at-returns-2 t c = form-past _ _ _ _ (omega arith)
+is-form-at-returns-2 t c = form-past _ _ _ _ _ (omega arith)
 
 is-form-at-add-is-form-at : (t : ℕ) → is-form-at-lts.Need-add-is-form-at (claims t) (is-form-at-at t) is-form-at.Post
 is-form-at-add-is-form-at t c = search needs
@@ -60,7 +60,7 @@ is-form-at-returns-3 t c =
     let after-if3 = c .before .before in
     let after-if1 = after-if3 .before .before in
     let a = after-if1 .before .args in
-    c .is-form-at .ensures ∙ form-cut (a .words .now) (a .at) (a .n) (a .count) (after-if1 .if1 .left) (after-if3 .if3 .taken)
+    c .is-form-at .ensures ∙ form-cut (a .words .now) (a .at) (a .n) (a .taken) (a .count) (after-if1 .if1 .left) (after-if3 .if3 .taken)
 
 is-form-at-mul-is-form : (t : ℕ) → is-form-at-lts.Need-mul-is-form (claims t) (is-form-at-at t) is-form-at.Post
 is-form-at-mul-is-form t c = search needs
@@ -84,7 +84,7 @@ is-form-at-returns-4 t c =
     let after-if1 = after-if2 .before in
     let a = after-if1 .before .args in
     let e : a .n ≡ length (a .words .now) - a .at = omega (arith, after-if2 .if2 .left, after-if3 .if3 .left) in
-    c .is-form .ensures ∙ form-end (a .words .now) (a .at) (a .n) (a .count) (after-if1 .if1 .left) e
+    c .is-form .ensures ∙ form-end (a .words .now) (a .at) (a .n) (a .taken) (a .count) (after-if1 .if1 .left) e
 
 pub +is-form-at-spec : {M : Type 1} → statement M
 +is-form-at-spec = close μ-is-form-at λ t. is-form-at-lts.spec (claims t)

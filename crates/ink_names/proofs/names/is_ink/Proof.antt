@@ -7,7 +7,7 @@ use Prim.Native.Nat.{ℕ}
 use native.Mathlib.Omega.{arith}
 use denote.Enum.Declared as Declared
 use Rattle.record.specs.declared.types.Body.{Body}
-use Rattle.record.specs.declared.types.Body.the-variants.{Free, CalGray, CalRgb, Lab, Indexed, Separation, Palette, Program}
+use Rattle.record.specs.declared.types.Body.the-variants.{Free, CalGray, CalRgb, Lab, Indexed, Separation, Palette, Program, DeviceN}
 use Rattle.record.proofs.types.Body as BodyEnum
 use Rattle.ink_names.specs.Names.{sameName, inkNamed}
 use Rattle.ink_names.proofs.Named.{ink-by, name-room, ink-stands}
@@ -30,6 +30,7 @@ other (Indexed base hival) s name h = refl
 other (Separation p) s name h = absurd (h refl)
 other Palette s name h = refl
 other Program s name h = refl
+other (DeviceN alternate count) s name h = refl
 
 body-at-requires : tie.Need-body-at-requires
 body-at-requires c κs = search needs
@@ -43,7 +44,7 @@ returns c =
     let body = c .before .body-at in
     let a = c .before .before .before .before .args in
     let no : tag (body .result) ≡ 5 → ⊥ = λ t. ⊎-elim (λ z. omega arith) (⊎-elim (λ z. omega arith) (⊎-elim (λ z. omega arith)
-    (⊎-elim (λ z. omega arith) (⊎-elim (λ z. omega arith) (⊎-elim (λ z. omega arith) (λ z. omega arith)))))) (c .match .keys2) in
+    (⊎-elim (λ z. omega arith) (⊎-elim (λ z. omega arith) (⊎-elim (λ z. omega arith) (⊎-elim (λ z. omega arith) (λ z. omega arith))))))) (c .match .keys2) in
     other (body .result) _ (a .name .now) no ∙ sym (ink-by (a .page .now) (a .name .now) (a .n) (body .ensures))
 
 cast-name-part : tie.Need-cast-name-part

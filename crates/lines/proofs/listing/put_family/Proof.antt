@@ -37,6 +37,12 @@ slice-aggregate-put-text-5 c = search needs
 put-text-requires-5 : tie.Need-put-text-requires-5
 put-text-requires-5 c κs = search needs
 
+slice-aggregate-put-text-6 : tie.Need-slice-aggregate-put-text-6
+slice-aggregate-put-text-6 c = search needs
+
+put-text-requires-6 : tie.Need-put-text-requires-6
+put-text-requires-6 c κs = search needs
+
 same-length : tie.Need-same-length
 same-length c = search needs
 
@@ -77,10 +83,19 @@ same-length-5 : tie.Need-same-length-5
 same-length-5 c = search needs
 
 returns-5 : tie.Need-returns-5
+unfolding familyOf
 returns-5 c =
     let put = c .before .before in
+    rw (put .before .before .before .match .keys5) (wider 11 (omega arith) (put .put-text5 .ensures))
+
+same-length-6 : tie.Need-same-length-6
+same-length-6 c = search needs
+
+returns-6 : tie.Need-returns-6
+returns-6 c =
+    let put = c .before .before in
     let none = put .before .before .before .match .rest in
-    rw (last-family _ (none .0 .0 .0 .1) (none .0 .0 .1) (none .0 .1) (none .1)) (wider 11 (omega arith) (put .put-text5 .ensures))
+    rw (last-family _ (none .0 .0 .0 .0 .1) (none .0 .0 .0 .1) (none .0 .0 .1) (none .0 .1) (none .1)) (wider 11 (omega arith) (put .put-text6 .ensures))
 
 pub put-family-spec : {M : Type 1} → statement M
 put-family-spec =
@@ -96,6 +111,8 @@ put-family-spec =
     put-text-requires-4
     slice-aggregate-put-text-5
     put-text-requires-5
+    slice-aggregate-put-text-6
+    put-text-requires-6
     same-length
     returns
     same-length-2
@@ -105,4 +122,6 @@ put-family-spec =
     same-length-4
     returns-4
     same-length-5
-    returns-5)
+    returns-5
+    same-length-6
+    returns-6)

@@ -49,6 +49,12 @@ enum-told-2 c = search needs
 enum-told-3 : tie.Need-enum-told-3
 enum-told-3 c = search needs
 
+enum-known-y-6 : tie.Need-enum-known-y-6
+enum-known-y-6 c = search needs
+
+device-n-fits-requires : tie.Need-device-n-fits-requires
+device-n-fits-requires c κs = search needs
+
 returns : tie.Need-returns
 returns c = rw (c .enum-told .given .1) tt
 
@@ -73,6 +79,9 @@ returns-7 c = rw (c .enum-told2 .given .1) (tt, tt)
 returns-8 : tie.Need-returns-8
 returns-8 c = rw (c .enum-told3 .given .1) (tt, tt)
 
+returns-9 : tie.Need-returns-9
+returns-9 c = subst (λ (y : Body). FieldsFit (body y [])) (sym (c .before .before .y6 .given .1)) (c .device-n-fits .ensures)
+
 pub body-fits-spec : {M : Type 1} → statement M
 body-fits-spec =
     tie.close
@@ -89,10 +98,13 @@ body-fits-spec =
     enum-known-y-5
     separation-fits-requires
     enum-told-2 enum-told-3
+    enum-known-y-6
+    device-n-fits-requires
     returns
     returns-2
     returns-3
     returns-4
     returns-5
     returns-6
-    returns-7 returns-8)
+    returns-7 returns-8
+    returns-9)

@@ -25,6 +25,9 @@ indexed-in-requires c κs = search needs
 separation-in-requires : tie.Need-separation-in-requires
 separation-in-requires c κs = search needs
 
+device-n-in-requires : tie.Need-device-n-in-requires
+device-n-in-requires c κs = search needs
+
 returns : tie.Need-returns
 unfolding bodyBy
 returns c = rw (sym (c .before .before .byte-in .ensures .0) ∙ c .before .match .keys1) (ap CalGray (c .gray-in .ensures))
@@ -55,12 +58,16 @@ returns-7 c = rw (sym (c .before .byte-in .ensures .0) ∙ c .match .keys7)
 
 returns-8 : tie.Need-returns-8
 unfolding bodyBy
-returns-8 c = let r = c .match .rest in
+returns-8 c = rw (sym (c .before .before .byte-in .ensures .0) ∙ c .before .match .keys8) (c .device-n-in .ensures)
+
+returns-9 : tie.Need-returns-9
+unfolding bodyBy
+returns-9 c = let r = c .match .rest in
     let e = c .before .byte-in .ensures .0 in
-    eq-no _ 1 _ _ _ e (r .0 .0 .0 .0 .0 .0 .1)
-    (eq-no _ 2 _ _ _ e (r .0 .0 .0 .0 .0 .1)
-    (eq-no _ 3 _ _ _ e (r .0 .0 .0 .0 .1)
-    (eq-no _ 4 _ _ _ e (r .0 .0 .0 .1) (eq-no _ 5 _ _ _ e (r .0 .0 .1) (eq-no _ 6 _ _ _ e (r .0 .1) (eq-no _ 7 _ _ _ e (r .1) refl))))))
+    eq-no _ 1 _ _ _ e (r .0 .0 .0 .0 .0 .0 .0 .1)
+    (eq-no _ 2 _ _ _ e (r .0 .0 .0 .0 .0 .0 .1)
+    (eq-no _ 3 _ _ _ e (r .0 .0 .0 .0 .0 .1)
+    (eq-no _ 4 _ _ _ e (r .0 .0 .0 .0 .1) (eq-no _ 5 _ _ _ e (r .0 .0 .0 .1) (eq-no _ 6 _ _ _ e (r .0 .0 .1) (eq-no _ 7 _ _ _ e (r .0 .1) (eq-no _ 8 _ _ _ e (r .1) refl)))))))
 
 pub body-in-spec : {M : Type 1} → statement M
 body-in-spec =
@@ -72,6 +79,7 @@ body-in-spec =
     lab-in-requires
     indexed-in-requires
     separation-in-requires
+    device-n-in-requires
     returns
     returns-2
     returns-3
@@ -79,4 +87,5 @@ body-in-spec =
     returns-5
     returns-6
     returns-7
-    returns-8)
+    returns-8
+    returns-9)

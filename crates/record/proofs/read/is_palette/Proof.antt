@@ -21,7 +21,7 @@ by-kind k b =
     cond-ind P (eqb k 3) (λ e. other 3 e refl) (λ _.
     cond-ind P (eqb k 4) (λ e. other 4 e refl) (λ _.
     cond-ind P (eqb k 5) (λ e. other 5 e refl) (λ _.
-    cond-ind P (eqb k 6) (λ e. e) (λ e. cond-ind P (eqb k 7) (λ _. e) (λ _. e)))))))
+    cond-ind P (eqb k 6) (λ e. e) (λ e. cond-ind P (eqb k 7) (λ _. e) (λ _. cond-ind P (eqb k 8) (λ _. e) (λ _. e))))))))
   where
     P : Body → Type 0
     P y = eqb k 6 ≡ isPalette y

@@ -22,7 +22,7 @@ by-kind k b =
     cond-ind P (eqb k 4) (λ e. other 4 e refl) (λ _.
     cond-ind P (eqb k 5) (λ e. other 5 e refl) (λ _.
     cond-ind P (eqb k 6) (λ e. other 6 e refl) (λ _.
-    cond-ind P (eqb k 7) (λ e. e) (λ e. e)))))))
+    cond-ind P (eqb k 7) (λ e. e) (λ e. cond-ind P (eqb k 8) (λ _. e) (λ _. e))))))))
   where
     P : Body → Type 0
     P y = eqb k 7 ≡ isProgram y

@@ -37,6 +37,9 @@ enum-told-3 c = search needs
 enum-told-4 : tie.Need-enum-told-4
 enum-told-4 c = search needs
 
+enum-told-5 : tie.Need-enum-told-5
+enum-told-5 c = search needs
+
 returns : tie.Need-returns
 unfolding lawful
 returns c = rw (c .enum-told .given .1)
@@ -69,6 +72,10 @@ returns-8 : tie.Need-returns-8
 unfolding lawful
 returns-8 c = rw (c .enum-told4 .given .1)
 
+returns-9 : tie.Need-returns-9
+unfolding lawful
+returns-9 c = rw (c .enum-told5 .given .1)
+
 pub is-lawful-spec : {M : Type 1} → statement M
 is-lawful-spec =
     tie.close
@@ -83,10 +90,10 @@ is-lawful-spec =
     enum-known-y-4
     enum-told-2
     enum-told-3 enum-told-4
-    returns
+    enum-told-5 returns
     returns-2
     returns-3
     returns-4
     returns-5
     returns-6
-    returns-7 returns-8)
+    returns-7 returns-8 returns-9)

@@ -40,6 +40,15 @@ enum-told-5 c = search needs
 enum-told-6 : tie.Need-enum-told-6
 enum-told-6 c = search needs
 
+enum-known-y-3 : tie.Need-enum-known-y-3
+enum-known-y-3 c = search needs
+
+cast-is-device-3 : tie.Need-cast-is-device-3
+cast-is-device-3 c = search needs
+
+is-device-requires-3 : tie.Need-is-device-requires-3
+is-device-requires-3 c κs = search needs
+
 returns : tie.Need-returns
 unfolding refers
 returns c = rw (c .enum-told .given .1)
@@ -72,6 +81,10 @@ returns-8 : tie.Need-returns-8
 unfolding refers
 returns-8 c = rw (c .enum-told6 .given .1)
 
+returns-9 : tie.Need-returns-9
+unfolding refers
+returns-9 c = rw (c .before .before .y3 .given .1, c .is-device3 .ensures)
+
 pub is-referring-spec : {M : Type 1} → statement M
 is-referring-spec =
     tie.close
@@ -87,10 +100,10 @@ is-referring-spec =
     cast-is-device-2
     is-device-requires-2
     enum-told-5 enum-told-6
-    returns
+    enum-known-y-3 cast-is-device-3 is-device-requires-3 returns
     returns-2
     returns-3
     returns-4
     returns-5
     returns-6
-    returns-7 returns-8)
+    returns-7 returns-8 returns-9)

@@ -43,6 +43,9 @@ enum-told-4 c = search needs
 enum-told-5 : tie.Need-enum-told-5
 enum-told-5 c = search needs
 
+enum-told-6 : tie.Need-enum-told-6
+enum-told-6 c = search needs
+
 returns : tie.Need-returns
 unfolding supported
 returns c = rw (c .enum-told .given .1)
@@ -75,6 +78,10 @@ returns-8 : tie.Need-returns-8
 unfolding supported
 returns-8 c = rw (c .enum-told5 .given .1)
 
+returns-9 : tie.Need-returns-9
+unfolding supported
+returns-9 c = rw (c .enum-told6 .given .1)
+
 pub is-supported-spec : {M : Type 1} → statement M
 is-supported-spec =
     tie.close
@@ -90,10 +97,10 @@ is-supported-spec =
     cast-is-exponent
     is-exponent-requires
     enum-told-4 enum-told-5
-    returns
+    enum-told-6 returns
     returns-2
     returns-3
     returns-4
     returns-5
     returns-6
-    returns-7 returns-8)
+    returns-7 returns-8 returns-9)

@@ -34,6 +34,15 @@ enum-told-6 c = search needs
 enum-told-7 : tie.Need-enum-told-7
 enum-told-7 c = search needs
 
+enum-known-y-2 : tie.Need-enum-known-y-2
+enum-known-y-2 c = search needs
+
+cast-names-fit : tie.Need-cast-names-fit
+cast-names-fit c = search needs
+
+names-fit-requires : tie.Need-names-fit-requires
+names-fit-requires c κs = search needs
+
 returns : tie.Need-returns
 unfolding wellNamed
 returns c = rw (c .enum-told .given .1)
@@ -66,6 +75,10 @@ returns-8 : tie.Need-returns-8
 unfolding wellNamed
 returns-8 c = rw (c .enum-told7 .given .1)
 
+returns-9 : tie.Need-returns-9
+unfolding wellNamed
+returns-9 c = rw (c .before .before .y2 .given .1) (c .names-fit .ensures)
+
 pub is-well-named-spec : {M : Type 1} → statement M
 is-well-named-spec =
     tie.close
@@ -79,10 +92,10 @@ is-well-named-spec =
     cast-name-fits
     name-fits-requires
     enum-told-6 enum-told-7
-    returns
+    enum-known-y-2 cast-names-fit names-fit-requires returns
     returns-2
     returns-3
     returns-4
     returns-5
     returns-6
-    returns-7 returns-8)
+    returns-7 returns-8 returns-9)

@@ -1,5 +1,6 @@
 -- Each arm of the match is the case of `stepped`; what a step asks of its numbers is that they are in range.
 use mathlib.Core.Path.{_∙_, ap, sym, subst}
+use native.Mathlib.Omega.{arith}
 use Rattle.fixed.specs.Values.{limitStep}
 use Rattle.fixed.proofs.Signs.{signed-within}
 use Rattle.steps.specs.Ranges.{Bounded}
@@ -24,13 +25,13 @@ enum-known-s-3 : tie.Need-enum-known-s-3
 enum-known-s-3 c = search needs
 
 tint-step-requires : tie.Need-tint-step-requires
-tint-step-requires c κs = let r = subst Bounded (c .before .s3 .given .1) (c .before .before .before .pre) in r .3
+tint-step-requires c κs = let r = subst Bounded (c .before .s3 .given .1) (c .before .before .before .pre) in omega (arith, r .3)
 
 enum-known-s-4 : tie.Need-enum-known-s-4
 enum-known-s-4 c = search needs
 
 program-step-requires : tie.Need-program-step-requires
-program-step-requires c κs = search needs
+program-step-requires c κs = let r = subst Bounded (c .before .s4 .given .1) (c .before .before .before .pre) in r .0
 
 enum-told : tie.Need-enum-told
 enum-told c = search needs

@@ -42,6 +42,15 @@ enum-told-5 c = search needs
 enum-told-6 : tie.Need-enum-told-6
 enum-told-6 c = search needs
 
+enum-known-y-3 : tie.Need-enum-known-y-3
+enum-known-y-3 c = search needs
+
+plain-at-requires-2 : tie.Need-plain-at-requires-2
+plain-at-requires-2 c κs = search needs
+
+count-requires-3 : tie.Need-count-requires-3
+count-requires-3 c κs = search needs
+
 returns : tie.Need-returns
 unfolding within
 returns c = (rw (c .enum-told .given .1), search needs)
@@ -74,6 +83,10 @@ returns-8 : tie.Need-returns-8
 unfolding within
 returns-8 c = (rw (c .enum-told6 .given .1), search needs)
 
+returns-9 : tie.Need-returns-9
+unfolding within
+returns-9 c = (rw (c .before .before .before .y3 .given .1) (c .count3 .ensures .0 _ ∙ ap countOf (c .before .plain-at2 .ensures .0)), c .count3 .ensures .1)
+
 pub count-within-spec : {M : Type 1} → statement M
 count-within-spec =
     tie.close
@@ -89,10 +102,10 @@ count-within-spec =
     plain-at-requires
     count-requires-2
     enum-told-5 enum-told-6
-    returns
+    enum-known-y-3 plain-at-requires-2 count-requires-3 returns
     returns-2
     returns-3
     returns-4
     returns-5
     returns-6
-    returns-7 returns-8)
+    returns-7 returns-8 returns-9)

@@ -1,6 +1,6 @@
 -- `permits`: an Indexed and a Separation are permitted where the space within has components, and the others always.
 use Rattle.runs.specs.Runs.{permitted}
-use Rattle.runs.proofs.Within.{indexed-permits, separation-permits}
+use Rattle.runs.proofs.Within.{indexed-permits, separation-permits, device-n-permits}
 use borrow.Author.Needs.{needs}
 use Rattle.runs.proofs.references.permits.Statement.{statement}
 use Rattle.runs.proofs.references.permits.Tie as tie
@@ -28,6 +28,9 @@ enum-told-7 c = search needs
 
 enum-told-8 : tie.Need-enum-told-8
 enum-told-8 c = search needs
+
+enum-told-9 : tie.Need-enum-told-9
+enum-told-9 c = search needs
 
 returns : tie.Need-returns
 unfolding permitted
@@ -61,6 +64,10 @@ returns-8 : tie.Need-returns-8
 unfolding permitted
 returns-8 c = λ page e. rw (c .enum-told8 .given .1)
 
+returns-9 : tie.Need-returns-9
+unfolding permitted
+returns-9 c = λ page e. device-n-permits page _ _ (c .enum-told9 .given .1) e
+
 pub permits-spec : {M : Type 1} → statement M
 permits-spec =
     tie.close
@@ -72,10 +79,10 @@ permits-spec =
     enum-told-5
     enum-told-6
     enum-told-7 enum-told-8
-    returns
+    enum-told-9 returns
     returns-2
     returns-3
     returns-4
     returns-5
     returns-6
-    returns-7 returns-8)
+    returns-7 returns-8 returns-9)

@@ -42,6 +42,9 @@ enum-told-5 c = search needs
 enum-told-6 : tie.Need-enum-told-6
 enum-told-6 c = search needs
 
+enum-told-7 : tie.Need-enum-told-7
+enum-told-7 c = search needs
+
 returns : tie.Need-returns
 unfolding wellFilled
 returns c = rw (c .enum-told .given .1)
@@ -80,6 +83,10 @@ returns-8 : tie.Need-returns-8
 unfolding wellFilled
 returns-8 c = rw (c .enum-told6 .given .1)
 
+returns-9 : tie.Need-returns-9
+unfolding wellFilled
+returns-9 c = rw (c .enum-told7 .given .1)
+
 pub is-well-filled-spec : {M : Type 1} → statement M
 is-well-filled-spec =
     tie.close
@@ -95,10 +102,10 @@ is-well-filled-spec =
     used-entries-requires
     unused-zero-requires
     enum-told-5 enum-told-6
-    returns
+    enum-told-7 returns
     returns-2
     returns-3
     returns-4
     returns-5
     returns-6
-    returns-7 returns-8)
+    returns-7 returns-8 returns-9)

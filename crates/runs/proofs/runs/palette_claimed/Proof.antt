@@ -57,6 +57,12 @@ enum-told-7 c = search needs
 less-requires-7 : tie.Need-less-requires-7
 less-requires-7 c κs = search needs
 
+enum-told-8 : tie.Need-enum-told-8
+enum-told-8 c = search needs
+
+less-requires-8 : tie.Need-less-requires-8
+less-requires-8 c κs = search needs
+
 returns : tie.Need-returns
 unfolding paletteClaimed
 returns c = λ page e. rw (c .before .enum-told .given .1) (c .less .ensures)
@@ -89,6 +95,10 @@ returns-8 : tie.Need-returns-8
 unfolding paletteClaimed
 returns-8 c = λ page e. rw (c .before .enum-told7 .given .1) (c .less7 .ensures)
 
+returns-9 : tie.Need-returns-9
+unfolding paletteClaimed
+returns-9 c = λ page e. rw (c .before .enum-told8 .given .1) (c .less8 .ensures)
+
 pub palette-claimed-spec : {M : Type 1} → statement M
 palette-claimed-spec =
     tie.close
@@ -110,11 +120,11 @@ palette-claimed-spec =
     less-requires-6
     enum-told-7
     less-requires-7
-    returns
+    enum-told-8 less-requires-8 returns
     returns-2
     returns-3
     returns-4
     returns-5
     returns-6
     returns-7
-    returns-8)
+    returns-8 returns-9)

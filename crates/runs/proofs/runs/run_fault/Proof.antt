@@ -19,10 +19,10 @@ judge-run-requires c κs = search needs
 returns : tie.Need-returns
 returns c =
     let after-filled = c .before .before in
-    run-judged _ _ _ (after-filled .before .program-run .ensures .0) (after-filled .is-filled-run .ensures) (c .before .if1 .taken) (c .judge-run .ensures)
+    run-judged _ _ _ _ (after-filled .before .program-run .ensures .0) (after-filled .is-filled-run .ensures) (c .before .if1 .taken) (c .judge-run .ensures)
 
 returns-2 : tie.Need-returns-2
-returns-2 c = run-refused _ _ _ (c .before .before .program-run .ensures .0) (c .before .is-filled-run .ensures) (c .if1 .left)
+returns-2 c = run-refused _ _ _ _ (c .before .before .program-run .ensures .0) (c .before .is-filled-run .ensures) (c .if1 .left)
 
 pub run-fault-spec : {M : Type 1} → statement M
 run-fault-spec =

@@ -57,6 +57,12 @@ enum-told-3 c = search needs
 nothing-requires-3 : tie.Need-nothing-requires-3
 nothing-requires-3 c κs = search needs
 
+enum-known-y-6 : tie.Need-enum-known-y-6
+enum-known-y-6 c = search needs
+
+device-n-level-requires : tie.Need-device-n-level-requires
+device-n-level-requires c κs = search needs
+
 returns : tie.Need-returns
 unfolding levelOf
 returns c = rw (c .before .enum-told .given .1) (c .nothing .ensures)
@@ -89,6 +95,10 @@ returns-8 : tie.Need-returns-8
 unfolding levelOf
 returns-8 c = rw (c .before .enum-told3 .given .1) (c .nothing3 .ensures)
 
+returns-9 : tie.Need-returns-9
+unfolding levelOf
+returns-9 c = rw (c .before .before .y6 .given .1) (c .device-n-level .ensures)
+
 pub level-of-spec : {M : Type 1} → statement M
 level-of-spec =
     tie.close
@@ -110,11 +120,11 @@ level-of-spec =
     nothing-requires-2
     enum-told-3
     nothing-requires-3
-    returns
+    enum-known-y-6 device-n-level-requires returns
     returns-2
     returns-3
     returns-4
     returns-5
     returns-6
     returns-7
-    returns-8)
+    returns-8 returns-9)

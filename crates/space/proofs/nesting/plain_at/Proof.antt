@@ -5,6 +5,11 @@ use Rattle.space.proofs.Levels.{plain, plain-read}
 use borrow.Author.Needs.{needs}
 use Rattle.space.proofs.nesting.plain_at.Statement.{statement}
 use Rattle.space.proofs.nesting.plain_at.Tie as tie
+use Rattle.space.proofs.nesting.plain_at.Reads as reads
+use Rattle.space.proofs.nesting.plain_at.Lts as lts
+use Rattle.space.proofs.nesting.is_named.Reads as is-named-reads
+use Rattle.space.proofs.nesting.level_at.Reads as level-at-reads
+use Rattle.space.proofs.nesting.nothing.Reads as nothing-reads
 
 level-at-requires : tie.Need-level-at-requires
 level-at-requires c κs = search needs
@@ -19,11 +24,7 @@ nothing-requires : tie.Need-nothing-requires
 nothing-requires c κs = search needs
 
 returns : tie.Need-returns
-returns c =
-    let after-is-named = c .before .before in
-    let after-l = after-is-named .before .before in
-    let after-level-at = after-l .before .before in
-    plain-read _ _ (after-level-at .level-at .ensures) (is-yes _ _ _ _ (after-is-named .is-named .ensures) (c .before .if1 .taken) (c .nothing .ensures) ∙ sym (ap plain (after-l .l .given .1)))
+returns c = plain-read _ _ (c .before .before .before .before .before .before .level-at .ensures) (is-yes _ _ _ _ (c .before .before .is-named .ensures) (c .before .if1 .taken) (c .nothing .ensures) ∙ sym (ap plain (c .before .before .before .before .l .given .1)))
 
 enum-told : tie.Need-enum-told
 enum-told c = search needs
@@ -43,6 +44,12 @@ enum-told-3 c = search needs
 nothing-requires-4 : tie.Need-nothing-requires-4
 nothing-requires-4 c κs = search needs
 
+enum-told-4 : tie.Need-enum-told-4
+enum-told-4 c = search needs
+
+nothing-requires-5 : tie.Need-nothing-requires-5
+nothing-requires-5 c κs = search needs
+
 returns-2 : tie.Need-returns-2
 returns-2 c = plain-read _ _ (c .before .before .before .before .before .level-at .ensures) (is-no _ _ _ _ (c .before .is-named .ensures) (c .if1 .left) refl ∙ sym (ap plain (c .before .before .before .l .given .1)))
 
@@ -54,6 +61,9 @@ returns-4 c = plain-read _ _ (c .before .before .before .level-at .ensures) (c .
 
 returns-5 : tie.Need-returns-5
 returns-5 c = plain-read _ _ (c .before .before .before .level-at .ensures) (c .nothing4 .ensures ∙ sym (ap plain (c .before .enum-told3 .given .1)))
+
+returns-6 : tie.Need-returns-6
+returns-6 c = plain-read _ _ (c .before .before .before .level-at .ensures) (c .nothing5 .ensures ∙ sym (ap plain (c .before .enum-told4 .given .1)))
 
 pub plain-at-spec : {M : Type 1} → statement M
 plain-at-spec =
@@ -70,7 +80,10 @@ plain-at-spec =
     nothing-requires-3
     enum-told-3
     nothing-requires-4
+    enum-told-4
+    nothing-requires-5
     returns-2
     returns-3
     returns-4
-    returns-5)
+    returns-5
+    returns-6)

@@ -1,9 +1,12 @@
--- `lows`: a plain space's by its closing step, 0 to 1 for the others.
+-- A plain space's by its closing step, 0 to 1 for the others.
 use Rattle.fixed.specs.Values.{listed}
 use Rattle.space.specs.Levels.{spaceIn}
 use borrow.Author.Needs.{needs}
 use Rattle.space.proofs.ranges.lows.Statement.{statement}
 use Rattle.space.proofs.ranges.lows.Tie as tie
+use Rattle.space.proofs.ranges.lows.Reads as reads
+use Rattle.space.proofs.ranges.lows.Lts as lts
+use Rattle.space.proofs.ranges.plain_lows.Reads as plain-lows-reads
 
 enum-known-l : tie.Need-enum-known-l
 enum-known-l c = search needs
@@ -19,6 +22,9 @@ enum-told-2 c = search needs
 
 enum-told-3 : tie.Need-enum-told-3
 enum-told-3 c = search needs
+
+enum-told-4 : tie.Need-enum-told-4
+enum-told-4 c = search needs
 
 returns : tie.Need-returns
 unfolding spaceIn listed
@@ -36,7 +42,22 @@ returns-4 : tie.Need-returns-4
 unfolding spaceIn listed
 returns-4 c = λ page. rw (c .enum-told3 .given .1)
 
+returns-5 : tie.Need-returns-5
+unfolding spaceIn listed
+returns-5 c = λ page. rw (c .enum-told4 .given .1)
+
 pub lows-spec : {M : Type 1} → statement M
 lows-spec =
     tie.close
-    (tie.spec enum-known-l plain-lows-requires enum-told enum-told-2 enum-told-3 returns returns-2 returns-3 returns-4)
+    (tie.spec
+    enum-known-l
+    plain-lows-requires
+    enum-told
+    enum-told-2
+    enum-told-3
+    enum-told-4
+    returns
+    returns-2
+    returns-3
+    returns-4
+    returns-5)

@@ -5,7 +5,8 @@ use Prim.Native.Nat.{_+_, _*_, _≤_}
 use native.Mathlib.Omega.{arith}
 use lib.Dec.{leb}
 use borrow.Author.Tests.{lt-ltb, le-ltb}
-use Rattle.steps.specs.Steps.{fills, rowRead}
+use Rattle.fixed.specs.Values.{places, fills}
+use Rattle.steps.specs.Steps.{rowRead}
 use Rattle.steps.proofs.Ranges.{row-no, row-yes, row-few}
 use borrow.Author.Needs.{needs}
 use Rattle.steps.proofs.parse.row_read.Statement.{statement}
@@ -15,7 +16,7 @@ use Rattle.steps.proofs.parse.row_read.Tie as tie
 passed : (c : tie.Else1) → (fills (c .before .before .before .small-at .result) && leb (c .before .before .small-at2 .result) 255) ≡ true
 passed c = row-yes (c .before .before .before .small-at .result) (c .before .before .small-at2 .result) (c .before .is-count .ensures) (c .if1 .left)
 
-few : (c : tie.Else1) → c .before .before .before .small-at .result * (c .before .before .small-at2 .result + 1) ≤ 1024
+few : (c : tie.Else1) → c .before .before .before .small-at .result * (c .before .before .small-at2 .result + 1) ≤ places * 256
 few c = row-few (c .before .before .before .small-at .result) (c .before .before .small-at2 .result) (c .before .is-count .ensures) (c .if1 .left)
 
 small-at-requires : tie.Need-small-at-requires

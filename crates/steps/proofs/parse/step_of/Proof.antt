@@ -48,6 +48,12 @@ close-read-requires-6 c κs = search needs
 program-read-requires : tie.Need-program-read-requires
 program-read-requires c κs = search needs
 
+small-at-requires-2 : tie.Need-small-at-requires-2
+small-at-requires-2 c κs = search needs
+
+program-read-requires-2 : tie.Need-program-read-requires-2
+program-read-requires-2 c κs = search needs
+
 returns : tie.Need-returns
 unfolding stepBy
 returns c = c .limit-read .ensures ∙ simp (← (c .before .before .small-at .ensures), c .before .match .keys1)
@@ -98,9 +104,13 @@ returns-12 c = c .program-read .ensures ∙ simp (← (c .before .before .small-
 
 returns-13 : tie.Need-returns-13
 unfolding stepBy
-returns-13 c =
+returns-13 c = c .program-read2 .ensures ∙ simp (← (c .before .before .before .small-at .ensures), c .before .before .match .keys13, c .before .small-at2 .ensures)
+
+returns-14 : tie.Need-returns-14
+unfolding stepBy
+returns-14 c =
     let r = c .match .rest in
-    simp (← (c .before .small-at .ensures), ne-eqb _ _ (r .1), ne-eqb _ _ (r .0 .1), ne-eqb _ _ (r .0 .0 .1), ne-eqb _ _ (r .0 .0 .0 .1), ne-eqb _ _ (r .0 .0 .0 .0 .1), ne-eqb _ _ (r .0 .0 .0 .0 .0 .1), ne-eqb _ _ (r .0 .0 .0 .0 .0 .0 .1), ne-eqb _ _ (r .0 .0 .0 .0 .0 .0 .0 .1), ne-eqb _ _ (r .0 .0 .0 .0 .0 .0 .0 .0 .1), ne-eqb _ _ (r .0 .0 .0 .0 .0 .0 .0 .0 .0 .1), ne-eqb _ _ (r .0 .0 .0 .0 .0 .0 .0 .0 .0 .0 .1), ne-eqb _ _ (r .0 .0 .0 .0 .0 .0 .0 .0 .0 .0 .0 .1))
+    simp (← (c .before .small-at .ensures), ne-eqb _ _ (r .1), ne-eqb _ _ (r .0 .1), ne-eqb _ _ (r .0 .0 .1), ne-eqb _ _ (r .0 .0 .0 .1), ne-eqb _ _ (r .0 .0 .0 .0 .1), ne-eqb _ _ (r .0 .0 .0 .0 .0 .1), ne-eqb _ _ (r .0 .0 .0 .0 .0 .0 .1), ne-eqb _ _ (r .0 .0 .0 .0 .0 .0 .0 .1), ne-eqb _ _ (r .0 .0 .0 .0 .0 .0 .0 .0 .1), ne-eqb _ _ (r .0 .0 .0 .0 .0 .0 .0 .0 .0 .1), ne-eqb _ _ (r .0 .0 .0 .0 .0 .0 .0 .0 .0 .0 .1), ne-eqb _ _ (r .0 .0 .0 .0 .0 .0 .0 .0 .0 .0 .0 .1), ne-eqb _ _ (r .0 .0 .0 .0 .0 .0 .0 .0 .0 .0 .0 .0 .1))
 
 pub step-of-spec : {M : Type 1} → statement M
 step-of-spec =
@@ -120,6 +130,8 @@ step-of-spec =
     close-read-requires-5
     close-read-requires-6
     program-read-requires
+    small-at-requires-2
+    program-read-requires-2
     returns
     returns-2
     returns-3
@@ -132,4 +144,5 @@ step-of-spec =
     returns-10
     returns-11
     returns-12
-    returns-13)
+    returns-13
+    returns-14)

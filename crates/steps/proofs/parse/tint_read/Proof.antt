@@ -3,15 +3,16 @@ use mathlib.Core.Path.{_≡_}
 use mathlib.Core.Bool.{true, _&&_}
 use borrow.Author.Tests.{lt-ltb, le-ltb}
 use Rattle.fixed.specs.Numbers.{exponentSupported}
-use Rattle.steps.specs.Steps.{fills, tintRead}
+use Rattle.fixed.specs.Values.{makes}
+use Rattle.steps.specs.Steps.{tintRead}
 use Rattle.steps.proofs.Ranges.{tint-no, tint-yes}
 use borrow.Author.Needs.{needs}
 use Rattle.steps.proofs.parse.tint_read.Statement.{statement}
 use Rattle.steps.proofs.parse.tint_read.Tie as tie
 
 -- past the first test, e and m are in range
-passed : (c : tie.Else1) → (exponentSupported (c .before .before .before .before .small-at .result) && fills (c .before .before .before .small-at2 .result)) ≡ true
-passed c = tint-yes (c .before .before .before .before .small-at .result) (c .before .before .before .small-at2 .result) (c .before .before .is-exponent .ensures) (c .before .is-count .ensures) (c .if1 .left)
+passed : (c : tie.Else1) → (exponentSupported (c .before .before .before .before .small-at .result) && makes (c .before .before .before .small-at2 .result)) ≡ true
+passed c = tint-yes (c .before .before .before .before .small-at .result) (c .before .before .before .small-at2 .result) (c .before .before .is-exponent .ensures) (c .before .is-made .ensures) (c .if1 .left)
 
 small-at-requires : tie.Need-small-at-requires
 small-at-requires c κs = search needs
@@ -22,12 +23,12 @@ small-at-requires-2 c κs = search needs
 is-exponent-requires : tie.Need-is-exponent-requires
 is-exponent-requires c κs = search needs
 
-is-count-requires : tie.Need-is-count-requires
-is-count-requires c κs = search needs
+is-made-requires : tie.Need-is-made-requires
+is-made-requires c κs = search needs
 
 returns : tie.Need-returns
 unfolding tintRead
-returns c = simp (← (c .before .before .before .before .small-at .ensures), ← (c .before .before .before .small-at2 .ensures), tint-no (c .before .before .before .before .small-at .result) (c .before .before .before .small-at2 .result) (c .before .before .is-exponent .ensures) (c .before .is-count .ensures) (c .if1 .taken))
+returns c = simp (← (c .before .before .before .before .small-at .ensures), ← (c .before .before .before .small-at2 .ensures), tint-no (c .before .before .before .before .small-at .result) (c .before .before .before .small-at2 .result) (c .before .before .is-exponent .ensures) (c .before .is-made .ensures) (c .if1 .taken))
 
 cast-n : tie.Need-cast-n
 cast-n c = search needs
@@ -53,7 +54,7 @@ tint-read-spec =
     small-at-requires
     small-at-requires-2
     is-exponent-requires
-    is-count-requires
+    is-made-requires
     returns
     cast-n
     mul-n

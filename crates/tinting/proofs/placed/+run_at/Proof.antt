@@ -35,7 +35,7 @@ run-at-returns : (t : ℕ) → run-at-lts.Need-returns (claims t) (run-at-at t) 
 run-at-returns t c =
     let after-if1 = c .before .before in
     let a = after-if1 .before .args in
-    c .run-at .ensures ∙ ap (λ (l : List ℤ). formValues (a .count) l (a .values .now)) (part-none (a .words .now) (a .at) (a .n) (after-if1 .if1 .taken))
+    c .run-at .ensures ∙ ap (λ (l : List ℤ). formValues (a .t) (a .count) l (a .values .now)) (part-none (a .words .now) (a .at) (a .n) (after-if1 .if1 .taken))
 
 run-at-run-at-requires-2 : (t : ℕ) → run-at-lts.Need-run-at-requires-2 (claims t) (run-at-at t) run-at.Post
 run-at-run-at-requires-2 t c κs = search needs
@@ -44,7 +44,7 @@ run-at-returns-2 : (t : ℕ) → run-at-lts.Need-returns-2 (claims t) (run-at-at
 run-at-returns-2 t c =
     let after-if2 = c .before .before in
     let a = after-if2 .before .before .args in
-    c .run-at2 .ensures ∙ ap (λ (l : List ℤ). formValues (a .count) l (a .values .now)) (part-rest (a .words .now) (a .at) (a .n) (after-if2 .if2 .taken))
+    c .run-at2 .ensures ∙ ap (λ (l : List ℤ). formValues (a .t) (a .count) l (a .values .now)) (part-rest (a .words .now) (a .at) (a .n) (after-if2 .if2 .taken))
 
 run-at-add-run : (t : ℕ) → run-at-lts.Need-add-run (claims t) (run-at-at t) run-at.Post
 run-at-add-run t c = search needs
@@ -68,7 +68,7 @@ run-at-returns-3 : (t : ℕ) → run-at-lts.Need-returns-3 (claims t) (run-at-at
 run-at-returns-3 t c =
     let after-v = c .before .before in
     let a = after-v .before .before .before .args in
-    c .run .ensures ∙ ap (λ (l : List ℤ). formValues (a .count) l (a .values .now)) (part-in (a .words .now) (a .at) (a .n))
+    c .run .ensures ∙ ap (λ (l : List ℤ). formValues (a .t) (a .count) l (a .values .now)) (part-in (a .words .now) (a .at) (a .n))
 
 pub +run-at-spec : {M : Type 1} → statement M
 +run-at-spec = close μ-run-at λ t. run-at-lts.spec (claims t)
