@@ -2,12 +2,13 @@
 
 use crate::args::Words;
 use crate::files;
+use crate::notes;
 use crate::numbers;
 use crate::pages::BLOCK;
 use crate::records::{self, Passed};
-use crate::refusals::{Stop, Told};
+use crate::refusals::{Place, Stop, Told};
 use crate::streams::Desk;
-use sktelbaan::{Body, Record, MOST_BLOCKS};
+use sktelbaan::{Body, Record, Refusal, MOST_BLOCKS};
 use std::ffi::OsStr;
 
 /// How many bytes of a record's text are read.
@@ -39,20 +40,9 @@ fn show(desk: &mut Desk<'_>, file: &OsStr, number: u32) -> Result<u8, Stop> {
     let bytes = contents.bytes.get(from..).unwrap_or_default();
     let block = &bytes[..bytes.len().min(BLOCK)];
     let (numbers, bytes) = sktelbaan::read_numbers(block).map_err(|refusal| {
-        let own = sktelbaan::Refusal {
-            block: 0,
-            ..refusal
-        };
-        let mut notes = crate::notes::of(block, &own);
-        if refusal.number == 10 {
-            notes.push(format!(
-                "block {number} has {} bytes in this file",
-                block.len()
-            ));
-        }
-        let place = crate::refusals::Place::Block(number);
         let told = Told::refused(refusal.number, &contents.name);
-        told.at_place(place).with_notes(notes)
+        told.at_place(Place::Block(number))
+            .with_notes(notes::of_one(block, refusal.number))
     })?;
     let record = Passed { numbers, bytes };
     if desk.json {
@@ -84,7 +74,7 @@ pub(crate) fn new(desk: &mut Desk<'_>, words: &Words, usage: &str) -> Result<u8,
     let file = format!("a page of {} blocks", word.to_string_lossy());
     // The length comes first, as on every page.
     let length = sktelbaan::validate(&vec![0; count * BLOCK]);
-    if let Err(refusal @ sktelbaan::Refusal { number: 1, .. }) = length {
+    if let Err(refusal @ Refusal { number: 1, .. }) = length {
         return Err(Told::refused(refusal.number, &file).into());
     }
     let mut page = Vec::new();

@@ -6,40 +6,48 @@ use crate::layout;
 use crate::names;
 use crate::pages::{family, ink_name, inside, Page};
 use crate::progress::Progress;
-use crate::refusals::Stop;
+use crate::refusals::{Place, Stop, Told};
 use crate::streams::Desk;
 use sktelbaan::{Body, Record};
 use std::ffi::{OsStr, OsString};
-use std::path::Path;
+use std::path::{Path, PathBuf};
 
 /// `check PAGE..`: says of each page whether it is accepted. The status is the worst.
 pub(crate) fn check(desk: &mut Desk<'_>, words: &Words, usage: &str) -> Result<u8, Stop> {
     let files = files_of(words.expect(1, usize::MAX, usage)?)?;
+    let plain = words.has("--plain");
     let mut progress = Progress::new(desk);
     let mut worst = 0;
     for (k, file) in files.iter().enumerate() {
         progress.show(desk, || format!("{k} of {} pages", files.len()));
-        let line = check_one(desk, file, words.has("--plain"));
+        let line = check_one(desk, file, plain);
         progress.clear(desk);
         match line {
             Ok(line) => desk.say(&line)?,
             Err(Stop::Told(told)) => {
-                if let (true, Some(number), false) = (words.has("--plain"), told.refusal, desk.json)
-                {
-                    let file = told.file.as_deref().unwrap_or_default();
-                    let block = match told.place {
-                        crate::refusals::Place::Block(block) => block,
-                        _ => 0,
-                    };
-                    desk.say(&format!("{file}: refused {number} block {block}\n"))?;
+                if plain && !desk.json {
+                    desk.say(&plain_refusal(&told))?;
                 }
                 worst = worst.max(told.status);
                 desk.tell(&told);
             }
-            Err(closed) => return Err(closed),
+            Err(Stop::Closed) => return Err(Stop::Closed),
         }
     }
     Ok(worst)
+}
+
+/// The plain line of a page that is refused; nothing for a file that cannot be read.
+fn plain_refusal(told: &Told) -> String {
+    let block = match told.place {
+        Place::Block(block) => block,
+        _ => 0,
+    };
+    let line = |number| {
+        let file = told.file.as_deref().unwrap_or_default();
+        format!("{file}: refused {number} block {block}\n")
+    };
+    told.refusal.map_or(String::new(), line)
 }
 
 /// The files that the words name: for a folder, its pages.
@@ -61,7 +69,7 @@ fn pages_in(folder: &OsStr) -> Result<Vec<OsString>, Stop> {
     let entries = std::fs::read_dir(folder);
     let entries = entries.map_err(|error| Stop::wrong(format!("{shown}: {error}")))?;
     let paths = entries.filter_map(Result::ok).map(|entry| entry.path());
-    let is_page = |path: &std::path::PathBuf| path.extension().is_some_and(|end| end == "page");
+    let is_page = |path: &PathBuf| path.extension().is_some_and(|end| end == "page");
     let mut pages: Vec<OsString> = paths.filter(is_page).map(OsString::from).collect();
     pages.sort();
     if pages.is_empty() {

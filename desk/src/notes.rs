@@ -18,11 +18,23 @@ pub(crate) fn of(page: &[u8], refusal: &Refusal) -> Vec<String> {
     match (refusal.number, block) {
         (1, _) => vec![length(page)],
         (2, Some(block)) => vec![sums(block)],
-        (3, Some(block)) => form(block, refusal.block),
+        (3, Some(block)) => form(block, Some(refusal.block)),
         (4 | 5, Some(block)) => vec![record(block)],
-        (6, Some(block)) => vec![refers(page, block)],
+        (6, Some(block)) => vec![refers(block, Some(page))],
         (7, Some(block)) => vec![record(block), follows(page, refusal.block)],
         (16 | 17, Some(_)) => vec![program(page, refusal.block)],
+        _ => Vec::new(),
+    }
+}
+
+/// What can be said of a block that was refused by itself.
+pub(crate) fn of_one(block: &[u8], number: u32) -> Vec<String> {
+    match (number, block.len()) {
+        (2, BLOCK) => vec![sums(block)],
+        (3, BLOCK) => form(block, None),
+        (4 | 5, BLOCK) => vec![record(block)],
+        (6, BLOCK) => vec![refers(block, None)],
+        (10, size) => vec![format!("the file has {size} bytes of this block")],
         _ => Vec::new(),
     }
 }
@@ -68,10 +80,11 @@ fn kind_shown(kind: u8) -> String {
 }
 
 /// Kind, own number and the first byte that should be zero and is not.
-fn form(block: &[u8], place: u32) -> Vec<String> {
+fn form(block: &[u8], place: Option<u32>) -> Vec<String> {
     let own = two(block, 2);
     let kind = kind_shown(block[0]);
-    let mut notes = vec![format!("kind {kind}; own number {own}, at block {place}")];
+    let place = place.map_or(String::new(), |place| format!(", at block {place}"));
+    let mut notes = vec![format!("kind {kind}; own number {own}{place}")];
     let known = layout::kind_of(i32::from(block[0]));
     let spare = known.map_or(508, |kind| kind.first_spare);
     let byte = |at: usize| format!("byte {at} of the block is {:02X}", block[at]);
@@ -138,19 +151,19 @@ fn number_shown(block: &[u8], at: usize, field: &Field) -> String {
     }
 }
 
-/// What a record refers to.
-fn refers(page: &[u8], block: &[u8]) -> String {
+/// What a record refers to, on its page.
+fn refers(block: &[u8], page: Option<&[u8]>) -> String {
     let reference = two(block, 4);
-    let blocks = page.len() / BLOCK;
+    let Some(page) = page else {
+        return format!("it refers to {reference}");
+    };
+    let last = page.len() / BLOCK - 1;
     match page.get(reference as usize * BLOCK) {
-        Some(kind) => format!(
-            "it refers to block {reference}, of kind {}",
-            kind_shown(*kind)
-        ),
-        None => format!(
-            "it refers to {reference}, and the page has blocks 0 to {}",
-            blocks - 1
-        ),
+        Some(kind) => {
+            let kind = kind_shown(*kind);
+            format!("it refers to block {reference}, of kind {kind}")
+        }
+        None => format!("it refers to {reference}, and the page has blocks 0 to {last}"),
     }
 }
 

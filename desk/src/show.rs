@@ -65,17 +65,27 @@ fn own_lines(
     record: &Record,
     rows: usize,
 ) -> Result<(String, Vec<String>), Stop> {
+    match &record.body {
+        Body::Indexed { base, hival } => {
+            let palette = page.palette(number, u32::from(*base), *hival)?;
+            let title = format!(": index 0 to {hival}");
+            Ok((title, palette_lines(&palette, rows)))
+        }
+        Body::Separation { .. } => separation_lines(page, number, record),
+        plain => Ok((String::new(), plain_lines(plain))),
+    }
+}
+
+/// The numbers of a plain space.
+fn plain_lines(body: &Body) -> Vec<String> {
     let points =
         |white: &[i32; 3], black: &[i32; 3]| format!("white {}  black {}", row(white), row(black));
-    Ok(match &record.body {
+    match body {
         Body::CalGray {
             white,
             black,
             gamma,
-        } => {
-            let gamma = format!("gamma {}", written(*gamma));
-            (String::new(), vec![points(white, black), gamma])
-        }
+        } => vec![points(white, black), format!("gamma {}", written(*gamma))],
         Body::CalRgb {
             white,
             black,
@@ -85,27 +95,19 @@ fn own_lines(
             let mut lines = vec![points(white, black), format!("gammas {}", row(gammas))];
             let columns = "ABC".chars().zip(matrix.chunks(3));
             lines.extend(columns.map(|(name, part)| format!("{name} gives {}", row(part))));
-            (String::new(), lines)
+            lines
         }
         Body::Lab {
             white,
             black,
-            range: [amin, amax, bmin, bmax],
+            range,
         } => {
-            let [amin, amax, bmin, bmax] = [amin, amax, bmin, bmax].map(|v| written(*v));
+            let [amin, amax, bmin, bmax] = range.map(written);
             let range = format!("a* {amin} to {amax}, b* {bmin} to {bmax}");
-            (String::new(), vec![points(white, black), range])
+            vec![points(white, black), range]
         }
-        Body::Indexed { base, hival } => {
-            let palette = page.palette(number, u32::from(*base), *hival)?;
-            (
-                format!(": index 0 to {hival}"),
-                palette_lines(&palette, rows),
-            )
-        }
-        Body::Separation { .. } => separation_lines(page, number, record)?,
-        Body::Free | Body::Palette | Body::Program => (String::new(), Vec::new()),
-    })
+        _ => Vec::new(),
+    }
 }
 
 /// The first rows of a palette, and how many more there are.

@@ -73,18 +73,29 @@ fn space_text(page: &Page, number: u32, depth: usize) -> Result<String, Stop> {
         return Ok(format!("/{device}"));
     }
     let record = page.record(number)?;
-    let margin = format!("\n{}", "  ".repeat(depth + 1));
+    match &record.body {
+        Body::Indexed { base, hival } => indexed(page, number, u32::from(*base), *hival, depth),
+        Body::Separation { .. } => separation(page, number, &record, depth),
+        plain => {
+            let margin = format!("\n{}", "  ".repeat(depth + 1));
+            plain_text(plain, &margin).ok_or_else(|| no_text(page, number, "it is no space"))
+        }
+    }
+}
+
+/// A plain space: its family and its dictionary.
+fn plain_text(body: &Body, margin: &str) -> Option<String> {
     let points = |white: &[i32; 3], black: &[i32; 3]| {
         format!("/WhitePoint [{}] /BlackPoint [{}]", row(white), row(black))
     };
-    Ok(match &record.body {
+    match body {
         Body::CalGray {
             white,
             black,
             gamma,
         } => {
             let (points, gamma) = (points(white, black), written(*gamma));
-            format!("[/CalGray << {points} /Gamma {gamma} >>]")
+            Some(format!("[/CalGray << {points} /Gamma {gamma} >>]"))
         }
         Body::CalRgb {
             white,
@@ -93,7 +104,8 @@ fn space_text(page: &Page, number: u32, depth: usize) -> Result<String, Stop> {
             matrix,
         } => {
             let (points, gammas, matrix) = (points(white, black), row(gammas), row(matrix));
-            format!("[/CalRGB << {points}{margin}/Gamma [{gammas}]{margin}/Matrix [{matrix}] >>]")
+            let entries = format!("/Gamma [{gammas}]{margin}/Matrix [{matrix}]");
+            Some(format!("[/CalRGB << {points}{margin}{entries} >>]"))
         }
         Body::Lab {
             white,
@@ -101,14 +113,10 @@ fn space_text(page: &Page, number: u32, depth: usize) -> Result<String, Stop> {
             range,
         } => {
             let points = points(white, black);
-            format!("[/Lab << {points} /Range [{}] >>]", row(range))
+            Some(format!("[/Lab << {points} /Range [{}] >>]", row(range)))
         }
-        Body::Indexed { base, hival } => indexed(page, number, u32::from(*base), *hival, depth)?,
-        Body::Separation { .. } => separation(page, number, &record, depth)?,
-        Body::Free | Body::Palette | Body::Program => {
-            return Err(no_text(page, number, "it is no space"));
-        }
-    })
+        _ => None,
+    }
 }
 
 /// What a designer's text has no words for.

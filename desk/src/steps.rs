@@ -252,12 +252,13 @@ mod tests {
             1, 12, 1, 11, 25, 1, 500_000, 14, 5, 3, 1, 500_000, 9, 1, 0, 4,
         ];
         let said = text(&words);
-        assert!(
-            said.contains("  5 3        %   4: if false, to 9\n"),
-            "{said}"
-        );
-        assert!(said.contains("  1 500000   %   1: 0.5\n"), "{said}");
-        assert!(said.contains("12 1 11      % a program of 11 words, which leaves one number\n"));
+        for line in [
+            "12 1 11     % a program of 11 words, which leaves one number\n",
+            "  1 500000  %   1: 0.5\n",
+            "  5 3       %   4: if false, to 9\n",
+        ] {
+            assert!(said.contains(line), "{said}");
+        }
     }
 
     #[test]
@@ -283,7 +284,7 @@ mod tests {
     #[test]
     fn the_least_word_is_a_number_of_c() {
         let c = in_c("gold", &[1, 1, 0, i32::MIN, 0, 4]);
-        assert!(c.contains("    1, 1, 0, "), "{c}");
-        assert!(c.contains(" -2147483647 - 1, 0, /* value 0 within -2147.483648 to 0 */\n"));
+        let line = "    1, 0, -2147483647 - 1, 0, /* value 0 within -2147.483648 to 0 */\n";
+        assert!(c.contains(line), "{c}");
     }
 }
