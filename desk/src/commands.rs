@@ -270,7 +270,8 @@ empty.page: 4 blocks",
         options: &[],
         example: "sktelbaan explain 9
 9 (components): the wrong number of components
-`sktelbaan list` has how many components a space takes, in the column `in`; the first word of a recipe is how many it takes.",
+`sktelbaan list` has how many components a space takes, in the column `in`; the first word of a
+recipe is how many it takes.",
         runs: explain::explain,
     },
 ];

@@ -1,6 +1,7 @@
 //! The refusals, as FORMAT.md has them, and what usually helps.
 
 use crate::args::Words;
+use crate::help::wrapped;
 use crate::json::Object;
 use crate::refusals::{name_of, words_of, Stop, COUNT};
 use crate::streams::Desk;
@@ -28,12 +29,9 @@ const HELPS: [&str; COUNT as usize] = [
 
 /// When a refusal is given, as FORMAT.md has it, in the words of the library.
 fn told(number: u32) -> String {
-    let help = HELPS[number as usize - 1];
-    format!(
-        "{number} ({}): {}\n{help}\n",
-        name_of(number),
-        words_of(number)
-    )
+    let (name, words) = (name_of(number), words_of(number));
+    let help = wrapped(HELPS[number as usize - 1], "");
+    format!("{number} ({name}): {words}\n{help}")
 }
 
 /// `explain [NUMBER]`: a refusal, and what usually helps; without a number, all of them.

@@ -55,7 +55,7 @@ fn options(options: &[Opt]) -> String {
 }
 
 /// A sentence in lines of the width of help, each after a margin.
-fn wrapped(sentence: &str, margin: &str) -> String {
+pub(crate) fn wrapped(sentence: &str, margin: &str) -> String {
     let mut text = String::new();
     let mut line = margin.to_string();
     for word in sentence.split(' ') {

@@ -54,7 +54,13 @@ fn length(page: &[u8]) -> String {
         return format!("it has more than {} bytes", thousands(PAGE_BYTES as u64));
     }
     let (blocks, over) = (size / BLOCK, size % BLOCK);
-    format!("it has {size} bytes, {blocks} blocks and {over} bytes over")
+    let unit = |count: usize, one: &str| match count {
+        1 => format!("1 {one}"),
+        _ => format!("{count} {one}s"),
+    };
+    let [size, blocks, over] =
+        [(size, "byte"), (blocks, "block"), (over, "byte")].map(|(count, one)| unit(count, one));
+    format!("it has {size}: {blocks} and {over} over")
 }
 
 fn two(block: &[u8], at: usize) -> u32 {

@@ -181,11 +181,12 @@ impl Told {
         if let Some(file) = &self.file {
             object = object.text("file", file);
         }
-        object = match self.refusal {
-            Some(number) => object
+        object = match (self.refusal, self.status) {
+            (Some(number), _) => object
                 .number("refused", i64::from(number))
                 .text("name", name_of(number)),
-            None => object.raw("refused", "null"),
+            (None, 1) => object.raw("refused", "null"),
+            _ => object,
         };
         object = match self.place {
             Place::Nowhere => object,
