@@ -11,15 +11,16 @@ use std::collections::{BTreeMap, BTreeSet};
 use std::fs;
 
 fn text_of(file: &str) -> String {
-    fs::read_to_string(root().join(file)).expect("a document")
+    fs::read_to_string(root().join(file)).unwrap_or_default()
 }
 
-/// A document is what is written of the table; with `DESK_WRITE` it is written.
+/// A document is what is written of the table; with `DESK_WRITE` it is written where it is not.
 fn held(file: &str, made: &str) {
-    if std::env::var_os("DESK_WRITE").is_some() {
-        fs::write(root().join(file), made).expect("the document is written");
-    }
     let stands = text_of(file) == made;
+    if !stands && std::env::var_os("DESK_WRITE").is_some() {
+        fs::write(root().join(file), made).expect("the document is written");
+        return;
+    }
     assert!(stands, "{file} is stale: DESK_WRITE=1 writes it anew");
 }
 
