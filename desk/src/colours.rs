@@ -1,6 +1,7 @@
 //! Colours: of a space on a page, or of a recipe; one on the command line, or many from standard input.
 
 use crate::args::Words;
+use crate::files;
 use crate::json::{self, Object};
 use crate::numbers::{self, thousands};
 use crate::progress::Progress;
@@ -320,7 +321,12 @@ impl<'a> Lines<'a> {
             Ok(0) => self.ended = true,
             Ok(count) => self.to += count,
             Err(error) if error.kind() == ErrorKind::Interrupted => {}
-            Err(error) => return Err(Stop::wrong(format!("standard input: {error}"))),
+            Err(error) => {
+                return Err(Stop::wrong(format!(
+                    "standard input: {}",
+                    files::reason(&error)
+                )))
+            }
         }
         Ok(())
     }

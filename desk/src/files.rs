@@ -24,6 +24,15 @@ pub(crate) fn shown(file: &OsStr) -> String {
     }
 }
 
+/// Why a file cannot be read or written, in the system's words, without its number for them.
+pub(crate) fn reason(error: &io::Error) -> String {
+    let words = error.to_string();
+    match words.find(" (os error") {
+        Some(end) => words[..end].to_string(),
+        None => words,
+    }
+}
+
 /// Reads a file, or for `-` the standard input, to its end, or to one byte more than `most`.
 pub(crate) fn read_up_to(desk: &mut Desk<'_>, file: &OsStr, most: usize) -> Result<Contents, Stop> {
     let name = shown(file);
@@ -36,7 +45,7 @@ pub(crate) fn read_up_to(desk: &mut Desk<'_>, file: &OsStr, most: usize) -> Resu
     };
     match read {
         Ok(_) => Ok(Contents { name, bytes }),
-        Err(error) => Err(Stop::wrong(format!("{name}: {error}"))),
+        Err(error) => Err(Stop::wrong(format!("{name}: {}", reason(&error)))),
     }
 }
 
@@ -65,7 +74,7 @@ impl Beside {
         let shown = shown(file);
         let opened = Self::begin(Path::new(file));
         let (place, beside, file) =
-            opened.map_err(|error| Stop::wrong(format!("{shown}: {error}")))?;
+            opened.map_err(|error| Stop::wrong(format!("{shown}: {}", reason(&error))))?;
         let file = Some(BufWriter::with_capacity(1 << 16, file));
         Ok(Beside {
             shown,
@@ -103,14 +112,14 @@ impl Beside {
             Some(file) => file.write_all(bytes),
             None => Ok(()),
         };
-        written.map_err(|error| Stop::wrong(format!("{}: {error}", self.shown)))
+        written.map_err(|error| Stop::wrong(format!("{}: {}", self.shown, reason(&error))))
     }
 
     /// Puts the file in its place, and gives the name that it is told by.
     pub fn commit(mut self) -> Result<String, Stop> {
         let shown = self.shown.clone();
         self.put_in_place()
-            .map_err(|error| Stop::wrong(format!("{shown}: {error}")))?;
+            .map_err(|error| Stop::wrong(format!("{shown}: {}", reason(&error))))?;
         Ok(shown)
     }
 

@@ -1,6 +1,7 @@
 //! Whether pages are accepted, and the spaces of one.
 
 use crate::args::Words;
+use crate::files::reason;
 use crate::json::Object;
 use crate::layout;
 use crate::names;
@@ -67,7 +68,7 @@ fn files_of(words: &[OsString]) -> Result<Vec<OsString>, Stop> {
 fn pages_in(folder: &OsStr) -> Result<Vec<OsString>, Stop> {
     let shown = folder.to_string_lossy();
     let entries = std::fs::read_dir(folder);
-    let entries = entries.map_err(|error| Stop::wrong(format!("{shown}: {error}")))?;
+    let entries = entries.map_err(|error| Stop::wrong(format!("{shown}: {}", reason(&error))))?;
     let paths = entries.filter_map(Result::ok).map(|entry| entry.path());
     let is_page = |path: &PathBuf| path.extension().is_some_and(|end| end == "page");
     let mut pages: Vec<OsString> = paths.filter(is_page).map(OsString::from).collect();

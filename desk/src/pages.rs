@@ -34,7 +34,8 @@ pub(crate) fn inside(body: &Body) -> Option<u32> {
     match *body {
         Body::Indexed { base, .. } => Some(u32::from(base)),
         Body::Separation { alternate, .. } => Some(u32::from(alternate)),
-        _ => None,
+        Body::CalGray { .. } | Body::CalRgb { .. } | Body::Lab { .. } => None,
+        Body::Free | Body::Palette | Body::Program => None,
     }
 }
 
@@ -114,7 +115,11 @@ impl Page {
         sktelbaan::recipe(&self.bytes, number).map_err(|refusal| {
             let told = self.refused(&refusal);
             match refusal.number {
-                8 => told.with_notes(vec![notes::no_space(&self.bytes, number)]),
+                8 => told
+                    .in_words(format!(
+                        "{number} is neither a device code nor a block with a space"
+                    ))
+                    .with_notes(vec![notes::no_space(&self.bytes, number)]),
                 _ => told,
             }
             .into()

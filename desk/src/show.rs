@@ -106,7 +106,8 @@ fn plain_lines(body: &Body) -> Vec<String> {
             let range = format!("a* {amin} to {amax}, b* {bmin} to {bmax}");
             vec![points(white, black), range]
         }
-        _ => Vec::new(),
+        Body::Indexed { .. } | Body::Separation { .. } => Vec::new(),
+        Body::Free | Body::Palette | Body::Program => Vec::new(),
     }
 }
 

@@ -115,7 +115,8 @@ fn plain_text(body: &Body, margin: &str) -> Option<String> {
             let points = points(white, black);
             Some(format!("[/Lab << {points} /Range [{}] >>]", row(range)))
         }
-        _ => None,
+        Body::Indexed { .. } | Body::Separation { .. } => None,
+        Body::Free | Body::Palette | Body::Program => None,
     }
 }
 

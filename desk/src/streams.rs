@@ -1,6 +1,6 @@
 //! The streams that a command reads and writes, and the file that `-o` names.
 
-use crate::files::Beside;
+use crate::files::{reason, Beside};
 use crate::json::Object;
 use crate::refusals::{Stop, Told};
 use std::io::{self, BufWriter, Read, Write};
@@ -46,7 +46,7 @@ struct Wrote {
 fn output_fault(error: &io::Error) -> Stop {
     match error.kind() {
         io::ErrorKind::BrokenPipe => Stop::Closed,
-        _ => Stop::wrong(format!("standard output: {error}")),
+        _ => Stop::wrong(format!("standard output: {}", reason(error))),
     }
 }
 

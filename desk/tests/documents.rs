@@ -142,7 +142,7 @@ fn completed(words: &[&str]) -> BTreeSet<String> {
 fn options_of(command: &Command) -> BTreeSet<String> {
     let options = command.options.iter().chain(EVERYWHERE);
     let names = options.flat_map(|option| option.names);
-    names.map(|name| name.to_string()).collect()
+    names.map(ToString::to_string).collect()
 }
 
 #[test]

@@ -135,7 +135,7 @@ fn a_file_that_may_not_be_written_or_read_is_status_2() {
     assert_eq!(ran.status, 2);
     assert!(ran.errors.contains("ermission denied"), "{}", ran.errors);
     assert_eq!(fs::read(&file).unwrap(), b"old");
-    fs::set_permissions(&file, fs::Permissions::from_mode(0)).unwrap();
+    fs::set_permissions(&file, fs::Permissions::from_mode(0o000)).unwrap();
     // Who may read every file reads this one too.
     if File::open(&file).is_err() {
         assert_eq!(desk(&["list", &file], b"").status, 2);

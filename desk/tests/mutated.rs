@@ -129,7 +129,7 @@ fn mutate(rng: &mut Rng, bytes: &mut Vec<u8>) {
         }
     }
     // A page whose checks are right again is refused further on.
-    if bytes.len() % 512 == 0 && rng.once_in(2) {
+    if bytes.len().is_multiple_of(512) && rng.once_in(2) {
         for number in 0..bytes.len() / 512 {
             reference::generate::repair(bytes, number);
         }
