@@ -103,6 +103,10 @@ impl Beside {
             }
         };
         let (beside, open) = create_beside(&place)?;
+        // Who may not read the old file may not read the new one either, from its first byte on.
+        if let Ok(known) = fs::metadata(&place) {
+            fs::set_permissions(&beside, known.permissions())?;
+        }
         Ok((place, Some(beside), open))
     }
 
@@ -132,9 +136,6 @@ impl Beside {
             return Ok(());
         };
         written.get_ref().sync_all()?;
-        if let Ok(known) = fs::metadata(&self.place) {
-            fs::set_permissions(beside, known.permissions())?;
-        }
         fs::rename(beside, &self.place)?;
         self.beside = None;
         Ok(())

@@ -131,57 +131,59 @@ mod tests {
         notes(text.as_bytes(), unread.at as usize).join("; ")
     }
 
+    /// Texts that are refused, and a part of what is noted.
+    const PASTED: &[(&str, &str)] = &[
+        (
+            "[/Indexed 12 0 R 255 <00>]",
+            "12 0 R is an indirect reference",
+        ),
+        (
+            "[/Indexed /DeviceRGB 1 14 0 R]",
+            "14 0 R is an indirect reference",
+        ),
+        ("[/Separation /Gold 12 0 R 13 0 R]", "12 0 R is an indirect"),
+        (
+            "[/Separation /Gold /DeviceCMYK 13 0 R]",
+            "13 0 R is an indirect",
+        ),
+        ("[/CalRGB 8 0 R]", "8 0 R is an indirect"),
+        (
+            "[/CalGray<</WhitePoint[1 1 1]/Gamma 7 0 R>>]",
+            "7 0 R is an indirect",
+        ),
+        ("[/CalGray<</WhitePoint 5 0 R>>]", "5 0 R is an indirect"),
+        ("[/ICCBased 12 0 R]", "ICCBased spaces are not carried"),
+        ("[/Indexed [/ICCBased 12 0 R] 1 <00 01>]", "ICCBased"),
+        (
+            "12 0 obj [/CalGray<</WhitePoint[1 1 1]>>] endobj",
+            "12 0 obj begins",
+        ),
+        (
+            "[/Separation/G/DeviceGray<</FunctionType 0>>]",
+            "type 0 (sampled)",
+        ),
+        (
+            "[/Separation/G/DeviceGray<</FunctionType 3>>]",
+            "type 3 (stitching)",
+        ),
+        (
+            "[/Separation/G/DeviceGray<</FunctionType 4>>]",
+            "type 4 (a calc",
+        ),
+        (
+            "[/Separation/G/DeviceGray<</FunctionType 2/Domain[0 1]/N 1/Range[0 1]>>]",
+            "a Range stands here",
+        ),
+        ("[/Separation/G/DeviceGray<</Size[2]>>]", "type 0"),
+        ("[/Separation/G/DeviceGray<</Functions[]>>]", "type 3"),
+        ("[/Pattern]", "Pattern"),
+        ("[/CalGray", "the end of the text"),
+        ("", "there is no space"),
+    ];
+
     #[test]
     fn what_real_documents_hold_is_named() {
-        let rows = [
-            (
-                "[/Indexed 12 0 R 255 <00>]",
-                "12 0 R is an indirect reference",
-            ),
-            (
-                "[/Indexed /DeviceRGB 1 14 0 R]",
-                "14 0 R is an indirect reference",
-            ),
-            ("[/Separation /Gold 12 0 R 13 0 R]", "12 0 R is an indirect"),
-            (
-                "[/Separation /Gold /DeviceCMYK 13 0 R]",
-                "13 0 R is an indirect",
-            ),
-            ("[/CalRGB 8 0 R]", "8 0 R is an indirect"),
-            (
-                "[/CalGray<</WhitePoint[1 1 1]/Gamma 7 0 R>>]",
-                "7 0 R is an indirect",
-            ),
-            ("[/CalGray<</WhitePoint 5 0 R>>]", "5 0 R is an indirect"),
-            ("[/ICCBased 12 0 R]", "ICCBased spaces are not carried"),
-            ("[/Indexed [/ICCBased 12 0 R] 1 <00 01>]", "ICCBased"),
-            (
-                "12 0 obj [/CalGray<</WhitePoint[1 1 1]>>] endobj",
-                "12 0 obj begins",
-            ),
-            (
-                "[/Separation/G/DeviceGray<</FunctionType 0>>]",
-                "type 0 (sampled)",
-            ),
-            (
-                "[/Separation/G/DeviceGray<</FunctionType 3>>]",
-                "type 3 (stitching)",
-            ),
-            (
-                "[/Separation/G/DeviceGray<</FunctionType 4>>]",
-                "type 4 (a calc",
-            ),
-            (
-                "[/Separation/G/DeviceGray<</FunctionType 2/Domain[0 1]/N 1/Range[0 1]>>]",
-                "a Range stands here",
-            ),
-            ("[/Separation/G/DeviceGray<</Size[2]>>]", "type 0"),
-            ("[/Separation/G/DeviceGray<</Functions[]>>]", "type 3"),
-            ("[/Pattern]", "Pattern"),
-            ("[/CalGray", "the end of the text"),
-            ("", "there is no space"),
-        ];
-        for (text, expected) in rows {
+        for (text, expected) in PASTED {
             let noted = noted(text);
             assert!(noted.contains(expected), "{text}: {noted}");
         }

@@ -166,54 +166,17 @@ fn any_file_gives_a_status() {
     assert!(statuses.iter().all(|count| *count > 0), "{statuses:?}");
 }
 
+/// Words of the command line, right and wrong; the last is empty.
+const PARTS: &str = "check list show colour recipe steps run read spell ink block new explain \
+    - -- -x --json --plain --house --all --strict --binary --c --help --version -h \
+    0 1 -1 0.5 50% gray /Gold /# 99999999999 \u{e9} --house=x --json=1 -5 3 ";
+
 #[test]
 fn any_words_give_a_status() {
     let rng = &mut Rng::new(7);
     let folder = Folder::new();
     let page = folder.with("a.page", &[0; 512]);
-    let parts = [
-        "check",
-        "list",
-        "show",
-        "colour",
-        "recipe",
-        "steps",
-        "run",
-        "read",
-        "spell",
-        "ink",
-        "block",
-        "new",
-        "explain",
-        "-",
-        "--",
-        "-x",
-        "--json",
-        "--plain",
-        "--house",
-        "--all",
-        "--strict",
-        "--binary",
-        "--c",
-        "--help",
-        "--version",
-        "-h",
-        "0",
-        "1",
-        "-1",
-        "0.5",
-        "50%",
-        "gray",
-        "/Gold",
-        "/#",
-        "99999999999",
-        "",
-        "\u{e9}",
-        "--house=x",
-        "--json=1",
-        "-5",
-        "3",
-    ];
+    let parts: Vec<&str> = PARTS.split(' ').collect();
     for _ in 0..turns("DESK_MUTATED", 5_000) {
         let mut words: Vec<&str> = (0..rng.below(6)).map(|_| rng.pick(&parts, "")).collect();
         words.insert(rng.below(words.len() + 1), &page);

@@ -190,58 +190,60 @@ fn records_are_read_as_they_are_written() {
     assert_eq!((blocks[3], blocks[512 + 3]), (1, 2));
 }
 
+/// Texts of records, the status that each gives, and what is told.
+const BAD_RECORDS: [(&str, u8, &str); 11] = [
+    (
+        "number 0\nkind Indexed\nbase 1\nhival 256\n",
+        1,
+        "refused 4",
+    ),
+    ("number 128\nkind Free\n", 1, "refused 3"),
+    (
+        "number 0\nkind Indexed\nbase 200\nhival 1\n",
+        1,
+        "refused 6",
+    ),
+    (
+        "number 0\nkind Indexed\nbase x\nhival 1\n",
+        2,
+        ":3:6: neither a block's number",
+    ),
+    (
+        "number 0\nkind Indexed\nbase 1\n",
+        2,
+        "a line with hival is missing",
+    ),
+    (
+        "number 0\nkind Blue\n",
+        2,
+        ":2:6: a kind is one of Free, CalGray",
+    ),
+    (
+        "number 0\nkind Free\nhival 1\n",
+        2,
+        ":3:1: no key of a record of kind Free",
+    ),
+    (
+        "number 0\nnumber 1\nkind Free\n",
+        2,
+        ":2:1: number stands twice",
+    ),
+    (
+        "number 0\nkind Palette\nbytes 0\n",
+        2,
+        ":3:7: not bytes in hexadecimal",
+    ),
+    (
+        "number 0\nkind Lab\nwhite 1 1 1\nblack 0 0\nrange 0 0 0 0\n",
+        2,
+        "black has 2 values",
+    ),
+    ("", 2, "a line with kind is missing"),
+];
+
 #[test]
 fn a_bad_record_is_told_with_its_place() {
-    let rows: [(&str, u8, &str); 11] = [
-        (
-            "number 0\nkind Indexed\nbase 1\nhival 256\n",
-            1,
-            "refused 4",
-        ),
-        ("number 128\nkind Free\n", 1, "refused 3"),
-        (
-            "number 0\nkind Indexed\nbase 200\nhival 1\n",
-            1,
-            "refused 6",
-        ),
-        (
-            "number 0\nkind Indexed\nbase x\nhival 1\n",
-            2,
-            ":3:6: neither a block's number",
-        ),
-        (
-            "number 0\nkind Indexed\nbase 1\n",
-            2,
-            "a line with hival is missing",
-        ),
-        (
-            "number 0\nkind Blue\n",
-            2,
-            ":2:6: a kind is one of Free, CalGray",
-        ),
-        (
-            "number 0\nkind Free\nhival 1\n",
-            2,
-            ":3:1: no key of a record of kind Free",
-        ),
-        (
-            "number 0\nnumber 1\nkind Free\n",
-            2,
-            ":2:1: number stands twice",
-        ),
-        (
-            "number 0\nkind Palette\nbytes 0\n",
-            2,
-            ":3:7: not bytes in hexadecimal",
-        ),
-        (
-            "number 0\nkind Lab\nwhite 1 1 1\nblack 0 0\nrange 0 0 0 0\n",
-            2,
-            "black has 2 values",
-        ),
-        ("", 2, "a line with kind is missing"),
-    ];
-    for (text, status, told) in rows {
+    for (text, status, told) in BAD_RECORDS {
         let ran = desk(&["block", "-"], text.as_bytes());
         assert_eq!(ran.status, status, "{text}");
         assert!(ran.errors.contains(told), "{text}: {}", ran.errors);
