@@ -6,7 +6,7 @@ use crate::json::{self, Object};
 use crate::numbers::{self, thousands};
 use crate::progress::Progress;
 use crate::recipes::Recipe;
-use crate::refusals::{Place, Stop, Told};
+use crate::refusals::{worse, Place, Stop, Told};
 use crate::spaces;
 use crate::streams::Desk;
 use sktelbaan::{Answer, Colour, Refusal};
@@ -75,20 +75,6 @@ fn name_of(answer: &Answer) -> &'static str {
         Answer::Xyz(_) => "XYZ",
         Answer::NoMark => "NoMark",
         Answer::EveryInk(_) => "EveryInk",
-    }
-}
-
-/// The worse of two statuses: a refusal is worse than a colour that was pulled in.
-fn worse(a: u8, b: u8) -> u8 {
-    let rank = |status: u8| match status {
-        3 => 1,
-        0 => 0,
-        other => other + 1,
-    };
-    if rank(b) > rank(a) {
-        b
-    } else {
-        a
     }
 }
 

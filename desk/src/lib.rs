@@ -43,7 +43,7 @@ mod texts;
 pub use commands::{Command, Opt, COMMANDS, EVERYWHERE};
 pub use streams::Streams;
 
-use refusals::Stop;
+use refusals::{worse, Stop};
 use std::ffi::OsString;
 use std::io::{Read, Write};
 use streams::Desk;
@@ -71,8 +71,8 @@ pub fn run_on(words: &[OsString], streams: Streams<'_>) -> u8 {
     let mut desk = Desk::new(streams);
     let done = commands::dispatch(words, &mut desk);
     let status = settled(done, &mut desk);
-    let finished = desk.finish(status);
-    status.max(settled(finished.map(|()| status), &mut desk))
+    let finished = desk.finish(status).map(|()| status);
+    worse(status, settled(finished, &mut desk))
 }
 
 /// The status of what a command came to. What stopped it is told; a closed pipe ends it in silence, at what it was.

@@ -25,6 +25,20 @@ impl From<Told> for Stop {
     }
 }
 
+/// The worse of two statuses: a refusal is worse than a colour that was pulled in.
+pub(crate) fn worse(a: u8, b: u8) -> u8 {
+    let rank = |status: u8| match status {
+        3 => 1,
+        0 => 0,
+        other => other + 1,
+    };
+    if rank(b) > rank(a) {
+        b
+    } else {
+        a
+    }
+}
+
 /// Where in a file something is.
 #[derive(Clone, Copy, Debug, PartialEq, Eq)]
 pub(crate) enum Place {
