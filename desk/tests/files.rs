@@ -51,6 +51,10 @@ fn a_full_disk_is_status_2() {
         let said = String::from_utf8_lossy(&ran.stderr);
         assert!(said.starts_with("standard output: No space left"), "{said}");
     }
+    // That comes before a colour that was pulled in.
+    let mut strict = program(&["colour", "--strict", &sample("gray.page"), "0", "2"]);
+    let ran = strict.stdout(full()).output().unwrap();
+    assert_eq!(ran.status.code(), Some(2));
     let ran = program(&["new", "128", "-o", "/dev/full"])
         .output()
         .unwrap();
