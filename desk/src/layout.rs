@@ -10,6 +10,8 @@ pub(crate) enum Unit {
     Reference,
     /// The length of the name that stands in the record's bytes.
     Name,
+    /// How many names stand in the record's bytes, each after a byte with its length.
+    Names,
 }
 
 /// Some numbers of a record that go by one name, and how many bytes each takes in a block.
@@ -121,6 +123,15 @@ pub(crate) const KINDS: &[Kind] = &[
     ),
     part(6, "Palette", Bytes::Palette),
     part(7, "Program", Bytes::Program),
+    kind(
+        8,
+        "DeviceN",
+        &[
+            one("alternate", Unit::Reference, 2),
+            one("names", Unit::Names, 1),
+        ],
+        508,
+    ),
 ];
 
 /// The kind of a number.

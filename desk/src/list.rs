@@ -2,7 +2,7 @@
 
 use crate::args::Words;
 use crate::files::reason;
-use crate::json::Object;
+use crate::json::{self, Object};
 use crate::layout;
 use crate::names;
 use crate::pages::{family, ink_name, inside, Page};
@@ -142,7 +142,7 @@ fn last_column(record: &Record) -> String {
         (Body::Indexed { hival: 0, .. }, _) => "1 row".to_string(),
         (Body::Indexed { hival, .. }, _) => format!("{} rows", u32::from(hival) + 1),
         (_, Some(name)) => names::written(name),
-        _ => String::new(),
+        _ => names::all(record).join(" "),
     }
 }
 
@@ -176,6 +176,13 @@ fn line_of(desk: &Desk<'_>, page: &Page, number: u32, record: &Record) -> Result
     }
     if let Some(name) = ink_name(record) {
         object = object.text("ink", &names::written(name));
+    }
+    if let Body::DeviceN { .. } = record.body {
+        let inks = names::all(record);
+        object = object.raw(
+            "inks",
+            &json::list(inks.iter().map(|ink| json::string(ink))),
+        );
     }
     Ok(object.line())
 }

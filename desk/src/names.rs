@@ -17,6 +17,11 @@ pub(crate) fn written(name: &[u8]) -> String {
         .collect()
 }
 
+/// The names of a record, each as a designer writes it.
+pub(crate) fn all(record: &sktelbaan::Record) -> Vec<String> {
+    record.names().into_iter().map(written).collect()
+}
+
 /// A name between quotes: a space stands for itself.
 pub(crate) fn quoted(name: &[u8]) -> String {
     let parts: Vec<String> = name.split(|b| *b == b' ').map(written).collect();

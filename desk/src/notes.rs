@@ -94,7 +94,8 @@ fn form(block: &[u8], place: Option<u32>) -> Vec<String> {
     let known = layout::kind_of(i32::from(block[0]));
     let spare = known.map_or(508, |kind| kind.first_spare);
     let byte = |at: usize| format!("byte {at} of the block is {:02X}", block[at]);
-    let mut places = std::iter::once(1).chain(spare..508);
+    let seven = known.filter(|kind| kind.fields.iter().any(|f| f.unit == Unit::Names));
+    let mut places = [1].into_iter().chain(seven.map(|_| 7)).chain(spare..508);
     notes.extend(places.find(|at| block[*at] != 0).map(byte));
     if let Some(kind) = known.filter(|kind| kind.fields.iter().any(|f| f.unit == Unit::Name)) {
         notes.push(name_note(block, kind));
@@ -138,7 +139,7 @@ fn record(block: &[u8]) -> String {
         let values: Vec<String> = (0..field.count)
             .map(|k| number_shown(block, at + k * field.size, field))
             .collect();
-        if field.unit != Unit::Name {
+        if !matches!(field.unit, Unit::Name | Unit::Names) {
             parts.push(format!("{} {}", field.key, values.join(" ")));
         }
         at += bytes_of(field);
@@ -153,7 +154,7 @@ fn number_shown(block: &[u8], at: usize, field: &Field) -> String {
     match field.unit {
         Unit::Millionths => numbers::written(value as i32),
         Unit::Reference => layout::reference(value),
-        Unit::Whole | Unit::Name => value.to_string(),
+        Unit::Whole | Unit::Name | Unit::Names => value.to_string(),
     }
 }
 

@@ -25,6 +25,7 @@ pub(crate) fn family(body: &Body) -> Option<&'static str> {
         Body::Lab { .. } => Some("Lab"),
         Body::Indexed { .. } => Some("Indexed"),
         Body::Separation { .. } => Some("Separation"),
+        Body::DeviceN { .. } => Some("DeviceN"),
         Body::Free | Body::Palette | Body::Program => None,
     }
 }
@@ -33,7 +34,9 @@ pub(crate) fn family(body: &Body) -> Option<&'static str> {
 pub(crate) fn inside(body: &Body) -> Option<u32> {
     match *body {
         Body::Indexed { base, .. } => Some(u32::from(base)),
-        Body::Separation { alternate, .. } => Some(u32::from(alternate)),
+        Body::Separation { alternate, .. } | Body::DeviceN { alternate, .. } => {
+            Some(u32::from(alternate))
+        }
         Body::CalGray { .. } | Body::CalRgb { .. } | Body::Lab { .. } => None,
         Body::Free | Body::Palette | Body::Program => None,
     }

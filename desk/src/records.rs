@@ -37,6 +37,7 @@ fn entries(record: &Passed, kind: &'static Kind) -> Vec<Entry> {
             Unit::Whole => v.to_string(),
             Unit::Reference => layout::reference(*v as u32),
             Unit::Name => names::written(&record.bytes[..(*v as usize).min(ROOM)]),
+            Unit::Names => packed(&record.bytes, *v).join(" "),
         };
         let values = own.iter().map(written).collect();
         entries.push(Entry {
@@ -45,6 +46,21 @@ fn entries(record: &Passed, kind: &'static Kind) -> Vec<Entry> {
         });
     }
     entries
+}
+
+/// So many names as they lie in a record's bytes, each after a byte with its length.
+fn packed(bytes: &[u8], count: i32) -> Vec<String> {
+    let mut left = bytes;
+    let mut made = Vec::new();
+    for _ in 0..count {
+        let Some((size, rest)) = left.split_first() else {
+            break;
+        };
+        let (name, rest) = rest.split_at(rest.len().min(usize::from(*size)));
+        made.push(names::written(name));
+        left = rest;
+    }
+    made
 }
 
 /// The bytes of a record up to the last that is not zero.
@@ -269,8 +285,11 @@ impl Reading<'_> {
 
     /// The numbers of a field, put in their places; gives how many they are.
     fn field(&self, field: &Field, record: &mut Passed, place: usize) -> Result<usize, Stop> {
-        if field.unit == Unit::Name {
-            record.numbers[place] = self.name(field.key, record)?;
+        if matches!(field.unit, Unit::Name | Unit::Names) {
+            record.numbers[place] = match field.unit {
+                Unit::Name => self.name(field.key, record)?,
+                _ => self.names(field.key, record)?,
+            };
             return Ok(1);
         }
         for (k, (at, word)) in self.values(field.key, field.count)?.iter().enumerate() {
@@ -279,7 +298,7 @@ impl Reading<'_> {
                     millionths(word).map_err(|fault| self.fault(*at, fault.words()))?
                 }
                 Unit::Reference => self.reference(*at, word)?,
-                Unit::Whole | Unit::Name => {
+                Unit::Whole | Unit::Name | Unit::Names => {
                     whole(word).ok_or_else(|| self.fault(*at, "not a whole number of 32 bits"))?
                 }
             };
@@ -302,6 +321,30 @@ impl Reading<'_> {
             .zip(&name)
             .for_each(|(to, b)| *to = *b);
         Ok(i32::try_from(name.len()).unwrap_or(i32::MAX))
+    }
+
+    /// Names, put into the record's bytes, each after a byte with its length; gives how many they are.
+    fn names(&self, key: &str, record: &mut Passed) -> Result<i32, Stop> {
+        let line = self.line(key)?;
+        let mut bytes = Vec::new();
+        for (at, word) in &line.values {
+            let name = names::read(word).filter(|name| name.len() < 256);
+            let bad = || {
+                self.fault(
+                    *at,
+                    "a name of at most 255 bytes, with two digits after a #",
+                )
+            };
+            let name = name.ok_or_else(bad)?;
+            bytes.push(name.len() as u8);
+            bytes.extend(name);
+        }
+        record
+            .bytes
+            .iter_mut()
+            .zip(&bytes)
+            .for_each(|(to, b)| *to = *b);
+        Ok(line.values.len() as i32)
     }
 
     /// A device space's name, or a number.

@@ -72,6 +72,12 @@ fn own_lines(
             Ok((title, palette_lines(&palette, rows)))
         }
         Body::Separation { .. } => separation_lines(page, number, record),
+        Body::DeviceN { .. } => {
+            let inks: Vec<String> = record.names().into_iter().map(names::quoted).collect();
+            let mut lines = vec!["program".to_string()];
+            lines.extend(program_lines(&page.program(number)));
+            Ok((format!(": inks {}", inks.join(", ")), lines))
+        }
         plain => Ok((String::new(), plain_lines(plain))),
     }
 }
@@ -106,7 +112,7 @@ fn plain_lines(body: &Body) -> Vec<String> {
             let range = format!("a* {amin} to {amax}, b* {bmin} to {bmax}");
             vec![points(white, black), range]
         }
-        Body::Indexed { .. } | Body::Separation { .. } => Vec::new(),
+        Body::Indexed { .. } | Body::Separation { .. } | Body::DeviceN { .. } => Vec::new(),
         Body::Free | Body::Palette | Body::Program => Vec::new(),
     }
 }
@@ -190,6 +196,13 @@ fn object_of(page: &Page, number: u32) -> Result<Object, Stop> {
             object.raw("rows", &json::list(rows))
         }
         Body::Separation { .. } => tint_object(page, number, &record, object)?,
+        Body::DeviceN { .. } => {
+            let inks = json::list(names::all(&record).iter().map(|ink| json::string(ink)));
+            let text = page.program(number);
+            object
+                .raw("inks", &inks)
+                .text("program", &String::from_utf8_lossy(&text))
+        }
         _ => plain_object(&record, object),
     };
     match inside(&record.body) {

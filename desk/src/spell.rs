@@ -76,6 +76,10 @@ fn space_text(page: &Page, number: u32, depth: usize) -> Result<String, Stop> {
     match &record.body {
         Body::Indexed { base, hival } => indexed(page, number, u32::from(*base), *hival, depth),
         Body::Separation { .. } => separation(page, number, &record, depth),
+        Body::DeviceN { .. } => {
+            let words = "a DeviceN is made by a program, which no designer's text can have";
+            Err(no_text(page, number, words))
+        }
         plain => {
             let margin = format!("\n{}", "  ".repeat(depth + 1));
             plain_text(plain, &margin).ok_or_else(|| no_text(page, number, "it is no space"))
@@ -115,7 +119,7 @@ fn plain_text(body: &Body, margin: &str) -> Option<String> {
             let points = points(white, black);
             Some(format!("[/Lab << {points} /Range [{}] >>]", row(range)))
         }
-        Body::Indexed { .. } | Body::Separation { .. } => None,
+        Body::Indexed { .. } | Body::Separation { .. } | Body::DeviceN { .. } => None,
         Body::Free | Body::Palette | Body::Program => None,
     }
 }

@@ -98,7 +98,8 @@ fn step(left: &[i32]) -> Option<(Vec<Line>, usize)> {
         1 => limit(left),
         2 => rows(left),
         3 => tint(left),
-        12 => program(left),
+        12 => program(left, 3),
+        13 => program(left, 4),
         _ => closing(left),
     }
 }
@@ -141,13 +142,18 @@ fn tint(left: &[i32]) -> Option<(Vec<Line>, usize)> {
     Some((lines, whole))
 }
 
-fn program(left: &[i32]) -> Option<(Vec<Line>, usize)> {
-    let head = left.get(..3)?;
-    let size = usize::try_from(head[2]).ok()?;
-    let whole = size.checked_add(3)?;
-    let items = left.get(3..whole)?;
-    let leaves = counted(head[1], "number");
-    let says = format!("a program of {size} words, which leaves {leaves}");
+/// A program of one tint, whose step has 3 words before it, or of several, whose step has 4.
+fn program(left: &[i32], words: usize) -> Option<(Vec<Line>, usize)> {
+    let head = left.get(..words)?;
+    let size = usize::try_from(head[words - 1]).ok()?;
+    let whole = size.checked_add(words)?;
+    let items = left.get(words..whole)?;
+    let leaves = counted(head[words - 2], "number");
+    let takes = match words {
+        3 => String::new(),
+        _ => format!("takes {} and ", counted(head[1], "tint")),
+    };
+    let says = format!("a program of {size} words, which {takes}leaves {leaves}");
     let mut lines = vec![line(head, says)];
     lines.extend(program_items(items));
     Some((lines, whole))

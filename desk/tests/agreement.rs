@@ -4,6 +4,7 @@ mod common;
 
 use common::{answer_text, desk, turns, typed, Folder};
 use reference::block::BLOCK;
+use reference::generate::device_n::{random_device_n_page_of, random_lone_device_n};
 use reference::generate::programs::{
     random_lone_program_record, random_program_page_of, random_program_recipe,
 };
@@ -18,13 +19,13 @@ fn tries() -> u64 {
     turns("DESK_TURNS", 120)
 }
 
-/// An accepted page, with programs on it or without.
+/// An accepted page: with programs on it, with DeviceN spaces, or without either.
 fn some_page(rng: &mut Rng) -> Vec<u8> {
-    if rng.once_in(2) {
-        random_page(rng)
-    } else {
-        let blocks = 2 + rng.below(10);
-        random_program_page_of(rng, blocks)
+    let blocks = 2 + rng.below(10);
+    match rng.below(3) {
+        0 => random_page(rng),
+        1 => random_program_page_of(rng, blocks),
+        _ => random_device_n_page_of(rng, blocks),
     }
 }
 
@@ -114,6 +115,7 @@ fn blocks_there_and_back_are_the_same_bytes() {
         let number = (turn % 128) as u16;
         let record = match turn % 4 {
             0 => random_lone_program_record(rng, number),
+            1 => random_lone_device_n(rng, number),
             _ => random_lone_record(rng, number),
         };
         let mut block = [0; BLOCK];

@@ -3,6 +3,7 @@
 mod common;
 
 use common::{desk, root, turns, Folder};
+use reference::generate::device_n::random_device_n_page_of;
 use reference::generate::programs::random_program_page_of;
 use reference::generate::{random_page, random_recipe, Rng};
 use reference::text::generate::{damage_text, random_text};
@@ -73,6 +74,7 @@ fn some_page(rng: &mut Rng) -> Vec<u8> {
     let blocks = 1 + rng.below(8);
     match rng.below(4) {
         0 => random_page(rng),
+        1 => random_device_n_page_of(rng, blocks),
         _ => random_program_page_of(rng, blocks),
     }
 }
