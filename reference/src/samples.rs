@@ -379,8 +379,8 @@ pub fn readme() -> String {
     let mut text = String::from(
         "# Samples
 
-Pages and texts to try. `NAME.page` is a page of 512-byte blocks, `NAME.txt` beside it what the listing program prints for it. All of them, every
-`NAME.lst` and this text are written by the second implementation:
+Pages and texts to try. `NAME.page` is a page of 512-byte blocks, `NAME.txt` beside it what the listing program prints for it. All of them,
+`deck.lst`, `refused.lst` and this text are written by the second implementation:
 
     cargo run --release --offline --manifest-path reference/Cargo.toml --bin samples -- samples
 
@@ -395,6 +395,8 @@ on the colours of `colours.txt` and the third on the inks of `inks.txt`, and com
     target/bin/reading < samples/deck.txt | target/bin/listing
 
 and `refused.lst` the line that `target/bin/reading < samples/refused.txt` prints to standard error.
+
+`desk.lst` has sessions of the desk program, which `desk/replay` runs; a test holds its floats to the second implementation's.
 ",
     );
     for written in TEXTS {
