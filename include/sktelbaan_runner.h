@@ -54,7 +54,7 @@ static inline uint32_t sktelbaan_value(uint64_t reply) { return sktelbaan_refusa
 
 /* Whether a colour was pulled in: 1 where some component, tint or index lay outside its range and was taken to the nearest end, in the space asked for or in
  * one inside it, and 0 where none was. Rounding an index is no move by itself: with hival 3 index 3.4 gives 0 and 3.5 gives 1. It is the reply's top bit,
- * bit 63, which the replies of sktelbaan_run and sktelbaan_evaluate alone ever have; 0 where something is refused. */
+ * bit 63, and means this in the replies of sktelbaan_run and sktelbaan_evaluate that refuse nothing; 0 where something is refused. */
 static inline int sktelbaan_moved(uint64_t reply) { return sktelbaan_refusal(reply) == 0 && reply >> 63 != 0 ? 1 : 0; }
 
 /* The refusals. */

@@ -31,8 +31,8 @@ pub extern "C" fn sktelbaan_validate(page: &[u8]) -> u64
     c_layout::verdict(page::validate(page))
 }
 
-// Evaluates a colour of the space at a number of a page. The reply gives 1 for Gray, 2 for RGB, 3 for CMYK, 4 for XYZ, with its one, three or four floats
-// in `floats`; the others, and on a refusal all, stay as they were.
+// Evaluates a colour of the space at a number of a page. The reply gives 1 for Gray, 2 for RGB, 3 for CMYK, 4 for XYZ, 5 for no mark and 6 for every ink, with
+// its one, three or four floats in `floats`, of no mark none, and sets its top bit where a limit moved anything; the others, and on a refusal all, stay as they were.
 #[no_mangle]
 pub extern "C" fn sktelbaan_evaluate(
     page: &[u8],
@@ -55,8 +55,7 @@ pub extern "C" fn sktelbaan_write_recipe(page: &[u8], number: u32, words: &mut [
     c_layout::count(recipe::write(page, number, words))
 }
 
-// Runs a recipe on a colour's components. The reply gives 1 for Gray, 2 for RGB, 3 for CMYK, 4 for XYZ, with its one, three or four floats
-// in `floats`; the others, and on a refusal all, stay as they were.
+// Runs a recipe on a colour's components, as `sktelbaan_runner` does: the reply and the floats are those of evaluating.
 #[no_mangle]
 pub extern "C" fn sktelbaan_run(words: &[i32], components: &[i32], floats: &mut [f64; 4]) -> u64
     ensures { λ r. ⌜ r ≡ replyOf (ran (now (words .entry)) (now (components .entry))) ⌝ }
