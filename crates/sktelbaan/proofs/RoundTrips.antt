@@ -13,7 +13,7 @@ use lib.Seq.{ext-getD, getD-append-add}
 use Rattle.fixed.specs.Bytes.{blocks, device, grayCode, rgbCode, cmykCode}
 use Rattle.fixed.specs.Loops.{allFrom}
 use Rattle.fixed.specs.Numbers.{exponentSupported}
-use Rattle.fixed.specs.Values.{value, smallOf, listed}
+use Rattle.fixed.specs.Values.{value, smallOf, listed, places}
 use Rattle.fixed.proofs.Decide.{and-left, and-right, or-ind, passed}
 use Rattle.fixed.proofs.Listed.{listed-length, listed-value}
 use Rattle.fixed.proofs.Scans.{all-each}
@@ -200,7 +200,7 @@ module _ (v : List ℤ) (s : List ℕ) (p : Passed v s) where
   named-back (suc (suc (suc (suc (suc (suc (suc zero))))))) h l t r m = refl
   named-back (suc (suc (suc (suc (suc (suc (suc (suc zero)))))))) h l t r m = λ i.
       number-back (value v 2) 65535 (omega arith) (reference-small _ r) i
-      ∷ number-back (value v 3) 255 (omega arith) (omega (arith, leb-true (oneOf v 3) 8 (and-right (leb 1 (oneOf v 3)) _ (and-left _ _ m)))) i
+      ∷ number-back (value v 3) 255 (omega arith) (omega (arith, leb-true (oneOf v 3) places (and-right (leb 1 (oneOf v 3)) _ (and-left _ _ m)))) i
       ∷ []
   named-back (suc (suc (suc (suc (suc (suc (suc (suc (suc k))))))))) h l t r m = absurd (omega arith)
 

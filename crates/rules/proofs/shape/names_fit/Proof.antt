@@ -7,6 +7,7 @@ use lib.Dec.{leb}
 use borrow.Author.Tests.{leb-true}
 use Rattle.fixed.proofs.Decide.{and-right}
 use Rattle.fixed.specs.Loops.{zeroBetween}
+use Rattle.fixed.specs.Values.{places}
 use Rattle.record.specs.Rules.{namesFit}
 use borrow.Author.Needs.{needs}
 use Rattle.rules.proofs.shape.names_fit.Statement.{statement}
@@ -21,10 +22,10 @@ cast-if1 : tie.Need-cast-if1
 cast-if1 c = search needs
 
 name-place-requires : tie.Need-name-place-requires
-name-place-requires c κs = let h : c .before .before .args .n ≤ 8 = leb-true (c .before .before .args .n) 8 (and-right (leb 1 (c .before .before .args .n)) (leb (c .before .before .args .n) 8) (c .if1 .taken)) in omega (arith, h)
+name-place-requires c κs = let h : c .before .before .args .n ≤ places = leb-true (c .before .before .args .n) places (and-right (leb 1 (c .before .before .args .n)) (leb (c .before .before .args .n) places) (c .if1 .taken)) in omega (arith, h)
 
 all-fit-requires : tie.Need-all-fit-requires
-all-fit-requires c κs = let h : c .before .before .before .args .n ≤ 8 = leb-true (c .before .before .before .args .n) 8 (and-right (leb 1 (c .before .before .before .args .n)) (leb (c .before .before .before .args .n) 8) (c .before .if1 .taken)) in omega (arith, h)
+all-fit-requires c κs = let h : c .before .before .before .args .n ≤ places = leb-true (c .before .before .before .args .n) places (and-right (leb 1 (c .before .before .before .args .n)) (leb (c .before .before .before .args .n) places) (c .before .if1 .taken)) in omega (arith, h)
 
 zero-between-requires : tie.Need-zero-between-requires
 zero-between-requires c κs = search needs
