@@ -4,6 +4,7 @@
 //
 // The numbers are decimal; the bytes are two hexadecimal digits each, or a full stop for a zero byte. The reference implementation writes the input and
 // what is expected of each line.
+#![tactic(auto)]
 mod asking;
 mod pages;
 mod run;

@@ -1,4 +1,5 @@
 // From numbers to colours: the steps on f64 (FORMAT.md, Colour steps), each operation rounded once and in that order, and the closing steps that end in an answer.
+#![tactic(auto)]
 mod closings;
 mod lab_step;
 mod steps;

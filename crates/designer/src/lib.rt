@@ -1,4 +1,5 @@
 // The reader of a designer's text, over memory that the caller lends: `begin`, the text in parts of any length, `end`.
+#![tactic(auto)]
 mod ending;
 mod lent;
 mod reading;

@@ -1,4 +1,5 @@
 // Text put into bytes that are lent: words, numbers in decimal, and the line of a designer's text that is refused.
+#![tactic(auto)]
 mod puts;
 mod texts;
 

@@ -20,7 +20,7 @@ signed_back {w} {z} f = to_z-of_z w z f
 
 -- the same from the bare bound, as a call's `.ok`, a slice's `.v .given` and a struct's `.struct_told .given` have it
 pub signed-within : (z : ℤ) → mag z < 2 ^ 31 → to_z w32 (of_z w32 z) ≡ z
-signed-within z h = signed_back (record { sfits = h })
+signed-within z h = signed_back {w = w32} (record { sfits = h })
 
 -- and of a number that is said to be y
 pub signed_is : (z : ℤ) {y : ℤ} → mag z < 2 ^ 31 → z ≡ y → to_z w32 (of_z w32 z) ≡ y

@@ -1,5 +1,7 @@
 // Fixed-point numbers: signed 32-bit counts of millionths, as a record or a colour component has them. How they are limited and rounded, how they stand in
 // lists, and their floats.
+#![tactic(auto)]
+
 mod codes;
 mod float;
 mod limits;

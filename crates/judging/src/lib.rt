@@ -1,4 +1,5 @@
 // The end of a designer's text: what it replies, and judging the blocks that the text has made.
+#![tactic(auto)]
 mod judging;
 mod types;
 

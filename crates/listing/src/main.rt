@@ -3,6 +3,7 @@
 //
 //     blocks 1
 //     0 CalGray 1 9
+#![tactic(auto)]
 use libc::{STDIN_FILENO, STDOUT_FILENO};
 
 // A byte more than the longest page, so that a longer input is refused and not cut.

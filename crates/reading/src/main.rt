@@ -2,6 +2,7 @@
 // standard error.
 //
 //     refused 12 at 40
+#![tactic(auto)]
 use judging::Reply;
 use libc::{STDERR_FILENO, STDIN_FILENO, STDOUT_FILENO};
 

@@ -1,6 +1,7 @@
 // One record of a colour space: its types, its place in a block of 512 bytes, and what a block says.
 //
 // Functions that read take a page and the number of a block on it; a block that stands alone is block 0.
+#![tactic(auto)]
 mod fits;
 mod names;
 mod read;

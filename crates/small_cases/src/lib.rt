@@ -1,4 +1,5 @@
 // Cases of what is smaller than a page, for the program `cases`: numbers, steps, and one block by itself.
+#![tactic(auto)]
 mod blocks;
 mod numbers;
 mod steps;

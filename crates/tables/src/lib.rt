@@ -1,4 +1,5 @@
 // The entries of an Indexed space's table, and how many words the recipe of a space has, its table among them.
+#![tactic(auto)]
 mod lengths;
 mod palette;
 

@@ -1,4 +1,5 @@
 // Text for the programs: lines read off standard input, and numbers, floats, answers and refusals written to standard output.
+#![tactic(auto)]
 mod input;
 mod output;
 

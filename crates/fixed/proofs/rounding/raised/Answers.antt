@@ -7,8 +7,7 @@ use mir.Syntax.{w32, w64}
 use mir.Val.{SFits}
 use mir.ValLaws.{to_z-of_z}
 use Rattle.fixed.proofs.Diff.{Diff, up, down, itself, add, of-pos, fits-at, pos-at, sub_at, up_lt, down_le, widened}
-use Rattle.fixed.proofs.rounding.raised.Statement.{statement}
-use Rattle.fixed.proofs.rounding.raised.Tie as tie
+use Rattle.fixed.proofs.rounding.raised.Goals as goal
 
 module _ {v : ℤ} (f : SFits w32 v) where
   sum : Diff (v +ℤ pos 2147483648) (up v + 2147483648) (down v + 0)
@@ -26,17 +25,16 @@ module _ {v : ℤ} (f : SFits w32 v) where
   back : v ≡ sub_ℕ ((up v + 2147483648) - (down v + 0)) (2 ^ 31)
   back = sub_at (itself v) ((up v + 2147483648) - (down v + 0)) (2 ^ 31) (omega (arith, down_le f))
 
-cast-result : tie.Need-overflow-cast-result
-cast-result c = simp (to_z-of_z w32 _ c.ranges.v) (widened c.ranges.v)
+pub overflow_cast-result : goal.overflow_cast-result
+overflow_cast-result c = simp (to_z-of_z w32 _ c.ranges.v) (widened c.ranges.v)
 
-add-result : tie.Need-overflow-add-result
-add-result c = let f = c.ranges.v in simp (to_z-of_z w32 _ f, to_z-of_z w64 _ (widened f)) (sum_fits f)
+pub overflow_add-result : goal.overflow_add-result
+overflow_add-result c = let f = c.ranges.v in simp (to_z-of_z w32 _ f, to_z-of_z w64 _ (widened f)) (sum_fits f)
 
-cast-result-2 : tie.Need-overflow-cast-result-2
-cast-result-2 c = let f = c.ranges.v in simp (to_z-of_z w32 _ f, to_z-of_z w64 _ (widened f), to_z-of_z w64 _ (sum_fits f)) (simp (sum_is f) (tt, record { fits = omega (arith, small f) }))
+pub overflow_cast-result-2 : goal.overflow_cast-result-2
+overflow_cast-result-2 c =
+    let f = c.ranges.v in simp (to_z-of_z w32 _ f, to_z-of_z w64 _ (widened f), to_z-of_z w64 _ (sum_fits f)) (simp (sum_is f) (tt, record { fits = omega (arith, small f) }))
 
-returns : tie.Need-returns
-returns c = let f = c.ranges.v in simp (to_z-of_z w32 _ f, to_z-of_z w64 _ (widened f), to_z-of_z w64 _ (sum_fits f)) (simp (sum_is f) (small f, back f))
-
-pub raised-spec : {M : Type 1} → statement M
-raised-spec = tie.close (tie.spec cast-result add-result cast-result-2 returns)
+pub returns : goal.returns
+returns c =
+    let f = c.ranges.v in simp (to_z-of_z w32 _ f, to_z-of_z w64 _ (widened f), to_z-of_z w64 _ (sum_fits f)) (simp (sum_is f) (small f, back f))

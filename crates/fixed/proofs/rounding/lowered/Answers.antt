@@ -8,8 +8,7 @@ use mir.Syntax.{w32, w64}
 use mir.Val.{SFits}
 use mir.ValLaws.{to_z_pos}
 use Rattle.fixed.proofs.Diff.{Diff, sub, of-pos, fits-at, sub_at}
-use Rattle.fixed.proofs.rounding.lowered.Statement.{statement}
-use Rattle.fixed.proofs.rounding.lowered.Tie as tie
+use Rattle.fixed.proofs.rounding.lowered.Goals as goal
 
 module _ {u : ℕ} (h : u < 2 ^ 32) where
   less : Diff (pos u -ℤ pos 2147483648) (u + 0) (0 + 2147483648)
@@ -27,17 +26,13 @@ module _ {u : ℕ} (h : u < 2 ^ 32) where
   read : u < 2 ^ 63
   read = omega arith
 
-cast-result : tie.Need-overflow-cast-result
-cast-result c = search rules
+pub overflow_sub-result : goal.overflow_sub-result
+overflow_sub-result c = search (rules, to_z_pos w64 c.args.u (read c.requires), fits64 c.requires)
 
-sub-result : tie.Need-overflow-sub-result
-sub-result c = search (rules, to_z_pos w64 c.args.u (read c.requires), fits64 c.requires)
+pub overflow_cast-result-2 : goal.overflow_cast-result-2
+overflow_cast-result-2 c =
+    search (rules, to_z_pos w64 c.args.u (read c.requires), fits64 c.requires, fits32 c.requires)
 
-cast-result-2 : tie.Need-overflow-cast-result-2
-cast-result-2 c = search (rules, to_z_pos w64 c.args.u (read c.requires), fits64 c.requires, fits32 c.requires)
-
-returns : tie.Need-returns
-returns c = search (rules, to_z_pos w64 c.args.u (read c.requires), fits64 c.requires, fits32 c.requires, is c.requires)
-
-pub lowered-spec : {M : Type 1} → statement M
-lowered-spec = tie.close (tie.spec cast-result sub-result cast-result-2 returns)
+pub returns : goal.returns
+returns c =
+    search (rules, to_z_pos w64 c.args.u (read c.requires), fits64 c.requires, fits32 c.requires, is c.requires)

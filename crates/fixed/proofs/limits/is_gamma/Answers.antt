@@ -9,8 +9,7 @@ use lib.Signed.{lt_z, non_neg}
 use borrow.Author.Tests.{ltb-true}
 use Rattle.fixed.specs.Numbers.{gamma_supported, most_tenths}
 use Rattle.fixed.proofs.Signs.{signed_back, sign, fit}
-use Rattle.fixed.proofs.limits.is_gamma.Statement.{statement}
-use Rattle.fixed.proofs.limits.is_gamma.Tie as tie
+use Rattle.fixed.proofs.limits.is_gamma.Goals as goal
 
 none : (z : ℤ) → lt_z z (pos 0) ≡ true → false ≡ gamma_supported z
 unfolding gamma_supported
@@ -22,19 +21,16 @@ unfolding gamma_supported
 some (pos n) t = refl
 some (negsuc n) t = absurd t
 
-returns : tie.Need-returns
-returns c = none c.before.args.v (rw (signed_back c.before.ranges.v) at c.if1.true)
+pub returns-then-v-lt0 : goal.returns-then-v-lt0
+returns-then-v-lt0 c = none c.args.v (rw (signed_back c.ranges.v) at c.if-v-lt0.true)
 
-cast-n : tie.Need-overflow-cast-n
-cast-n c =
-    let f = c.before.ranges.v in
-    let p = sign c.before.args.v (rw (signed_back f) at c.if1.false) in
-    rw (signed_back f) (p, fit c.before.args.v f.sfits p)
+pub overflow_cast-n : goal.overflow_cast-n
+overflow_cast-n c =
+    let f = c.ranges.v in
+    let p = sign c.args.v (rw (signed_back f) at c.if-v-lt0.false) in
+    rw (signed_back f) (p, fit c.args.v f.sfits p)
 
-returns-2 : tie.Need-returns-2
-returns-2 c =
-    let f = c.before.ranges.v in
-    rw (signed_back f) (some c.before.args.v (sign c.before.args.v (rw (signed_back f) at c.if1.false)))
-
-pub is-gamma-spec : {M : Type 1} → statement M
-is-gamma-spec = tie.close (tie.spec returns cast-n returns-2)
+pub returns : goal.returns
+returns c =
+    let f = c.ranges.v in
+    rw (signed_back f) (some c.args.v (sign c.args.v (rw (signed_back f) at c.if-v-lt0.false)))

@@ -9,8 +9,7 @@ use Rattle.fixed.proofs.Diff.{Diff, of_eq, shift, half_at}
 use Rattle.fixed.proofs.Round.{low, mid, high, halves}
 use Rattle.fixed.proofs.Signs.{signed_back}
 use borrow.Author.Rules.{rules}
-use Rattle.fixed.proofs.rounding.index_of.Statement.{statement}
-use Rattle.fixed.proofs.rounding.index_of.Tie as tie
+use Rattle.fixed.proofs.rounding.index_of.Goals as goal
 
 -- u is v raised by 2^31
 quotient : (v : ℤ) (u : ℕ) → v ≡ sub_ℕ u (2 ^ 31) → Diff (half_up v 1000000) ((u + 1016352) / 1000000) 2148
@@ -19,29 +18,14 @@ quotient v u e =
     subst (λ (n : ℕ). Diff (half_up v 1000000) n 2148) (halves (u + 516352) ∙ ap (λ (n : ℕ). n / 1000000) from)
     (half_at 1000000 2148 (lit< tt) (shift (of_eq u (2 ^ 31) e) (omega arith)))
 
-rounded : (c : tie.After-raised) → Diff (half_up c.before.args.v 1000000) ((c.raised.result + 1016352) / 1000000) 2148
-rounded c = quotient _ c.raised.result (sym (signed_back c.before.ranges.v) ∙ c.raised.ensures.1)
-
-raised-requires : tie.Need-raised-requires
-raised-requires c κs = search rules
-
-add-n : tie.Need-overflow-add-n
-add-n c = search rules
-
-returns : tie.Need-returns
+pub returns-then-n-lt2148 : goal.returns-then-n-lt2148
 unfolding index_outside
-returns c = low c.before.before.args.hival (rounded c.before) (omega arith)
+returns-then-n-lt2148 c = low c.args.hival (quotient _ c.raised-u.result (sym (signed_back c.ranges.v) ∙ c.raised-u.ensures.1)) (omega arith)
 
-cast-row : tie.Need-overflow-cast-row
-cast-row c = search rules
-
-returns-2 : tie.Need-returns-2
+pub returns-then-hival-row : goal.returns-then-hival-row
 unfolding index_outside
-returns-2 c = high c.before.before.before.args.hival (rounded c.before.before) (omega arith)
+returns-then-hival-row c = high c.args.hival (quotient _ c.raised-u.result (sym (signed_back c.ranges.v) ∙ c.raised-u.ensures.1)) (omega arith)
 
-returns-3 : tie.Need-returns-3
+pub returns : goal.returns
 unfolding index_outside
-returns-3 c = mid c.before.before.before.args.hival (rounded c.before.before) (omega arith) (omega arith)
-
-pub index-of-spec : {M : Type 1} → statement M
-index-of-spec = tie.close (tie.spec raised-requires add-n returns cast-row returns-2 returns-3)
+returns c = mid c.args.hival (quotient _ c.raised-u.result (sym (signed_back c.ranges.v) ∙ c.raised-u.ensures.1)) (omega arith) (omega arith)

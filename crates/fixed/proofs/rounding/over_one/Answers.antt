@@ -7,8 +7,7 @@ use Rattle.fixed.specs.Loops.{all_from}
 use Rattle.fixed.specs.Numbers.{palette_value, OverOne}
 use Rattle.fixed.proofs.OverOne.{over_one}
 use Rattle.fixed.proofs.Tables.{right, entry-is}
-use Rattle.fixed.proofs.rounding.over_one.Statement.{statement}
-use Rattle.fixed.proofs.rounding.over_one.Tie as tie
+use Rattle.fixed.proofs.rounding.over_one.Goals as goal
 
 -- what a palette byte is over 0..1
 rule : ℕ → ℤ
@@ -19,9 +18,6 @@ all : all_from (right rule over_one) 0 256 ≡ true
 unfolding all_from palette_value rule over_one
 all = refl
 
-returns : tie.Need-returns
+pub returns : goal.returns
 unfolding rule over_one OverOne
 returns c = entry-is rule over_one 256 all
-
-pub over-one-spec : {M : Type 1} → statement M
-over-one-spec = tie.close (tie.spec returns)
