@@ -1,5 +1,6 @@
 // Numbers in bytes, read and stored: big-endian, signed ones in two's complement (FORMAT.md, The page). The definitions are those of `fixed`, Bytes.
 #![tactic(auto)]
+
 mod bytes;
 
 pub use bytes::{
