@@ -8,7 +8,6 @@ use Rattle.fixed.specs.Numbers.{half_up, index_outside}
 use Rattle.fixed.proofs.Diff.{Diff, of_eq, shift, half_at}
 use Rattle.fixed.proofs.Round.{low, mid, high, halves}
 use Rattle.fixed.proofs.Signs.{signed_back}
-use borrow.Author.Rules.{rules}
 use Rattle.fixed.proofs.rounding.index_of.Goals as goal
 
 -- u is v raised by 2^31

@@ -1,5 +1,4 @@
-use mathlib.Core.Path.{◌≡◌, refl}
-use Prim.Native.Nat.{◌≤◌, ◌-◌, ◌+◌}
+use mathlib.Core.Path.{refl}
 use native.Mathlib.Omega.{arith}
 use Rattle.fixed.specs.Numbers.{tint_power}
 use Rattle.fixed.proofs.Powers.{power_small, power_le, power-turn, power-end}

@@ -1,10 +1,7 @@
 -- The loop makes one power after the other; none is above 1.
-use mathlib.Core.Path.{◌≡◌, refl}
+use mathlib.Core.Path.{◌≡◌}
 use Prim.Native.Nat.{◌≤◌, ◌-◌, ◌+◌}
-use native.Mathlib.Omega.{arith}
 use Rattle.fixed.specs.Numbers.{tint_power}
-use Rattle.fixed.proofs.Powers.{power_small, power_le, power-turn, power-end}
-use borrow.Author.Rules.{rules}
 use Rattle.fixed.proofs.rounding.tint_power.Given as goal
 
 abbrev pub invariant-loop-i : goal.invariant-loop-i

@@ -2,7 +2,6 @@
 use mathlib.Core.Path.{◌∙◌, ap}
 use Rattle.fixed.proofs.Signs.{signed_is}
 use Rattle.fixed.specs.Values.{small_of}
-use borrow.Author.Rules.{rules}
 use Rattle.fixed.proofs.values.small_at.Goals as goal
 
 pub returns : goal.returns

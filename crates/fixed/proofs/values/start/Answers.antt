@@ -1,11 +1,9 @@
 use mathlib.Core.Path.{◌≡◌, refl, ◌∙◌}
 use mathlib.Core.Bool.{false}
-use Prim.Native.Nat.{◌≤◌, ◌-◌}
 use native.Mathlib.Omega.{arith}
 use Rattle.fixed.specs.Values.{places, value, listed, filled, given}
 use Rattle.fixed.proofs.Signs.{signed_is}
 use Rattle.fixed.proofs.Listed.{filled-turn}
-use borrow.Author.Rules.{rules}
 use Rattle.fixed.proofs.values.start.Goals as goal
 
 pub loop-k-init : goal.loop-k-init

@@ -1,12 +1,7 @@
 -- Each turn gives one more value; all of them are `given`.
-use mathlib.Core.Path.{◌≡◌, refl, ◌∙◌}
-use mathlib.Core.Bool.{false}
+use mathlib.Core.Path.{◌≡◌}
 use Prim.Native.Nat.{◌≤◌, ◌-◌}
-use native.Mathlib.Omega.{arith}
-use Rattle.fixed.specs.Values.{places, value, listed, filled, given}
-use Rattle.fixed.proofs.Signs.{signed_is}
-use Rattle.fixed.proofs.Listed.{filled-turn}
-use borrow.Author.Rules.{rules}
+use Rattle.fixed.specs.Values.{places, value, filled}
 use Rattle.fixed.proofs.values.start.Given as goal
 
 abbrev pub invariant-loop-k : goal.invariant-loop-k

@@ -1,7 +1,6 @@
 -- Where the page has the four bytes, `number_in` reads them; elsewhere `four` has them.
 use Rattle.fixed.specs.Bytes.{number_at}
 use Rattle.fixed.proofs.Signs.{signed-within}
-use borrow.Author.Rules.{rules}
 use Rattle.octets.proofs.bytes.number_at.Goals as goal
 
 pub returns : goal.returns

@@ -2,7 +2,6 @@
 use Rattle.fixed.specs.Bytes.{number_at}
 use Rattle.fixed.proofs.Places.{four-place}
 use Rattle.fixed.proofs.Signs.{signed-within}
-use borrow.Author.Rules.{rules}
 use Rattle.octets.proofs.bytes.number_in.Goals as goal
 
 pub returns : goal.returns

@@ -5,7 +5,6 @@ use native.Mathlib.Omega.{arith}
 use Rattle.fixed.proofs.Diff.{of_eq}
 use Rattle.fixed.proofs.Signs.{signed_back}
 use Rattle.fixed.proofs.Twos.{bits-low, bits-high}
-use borrow.Author.Rules.{rules}
 use Rattle.octets.proofs.bytes.of_signed.Goals as goal
 
 pub returns-then-a-lt2147483648 : goal.returns-then-a-lt2147483648

@@ -2,7 +2,6 @@
 use native.Mathlib.Omega.{arith}
 use lib.ListN.{length-set}
 use Rattle.fixed.proofs.Stores.{four-stored}
-use borrow.Author.Rules.{rules}
 use Rattle.octets.proofs.bytes.put_four.Goals as goal
 
 pub bounds-out-at-2 : goal.bounds-out-at-2

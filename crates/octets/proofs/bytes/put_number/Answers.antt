@@ -5,7 +5,6 @@ use lib.Seq.{sets}
 use mir.Syntax.{w32}
 use mir.ValLaws.{to_z-of_z}
 use Rattle.fixed.specs.Bytes.{bits, four_bytes}
-use borrow.Author.Rules.{rules}
 use Rattle.octets.proofs.bytes.put_number.Goals as goal
 
 pub returns : goal.returns
