@@ -1,6 +1,7 @@
 // Calculator programs (clause 7.10.5): the operand stack, the operators, and the flat form run on it. A stack is lent as an array of a hundred numbers
 // or more, with its height.
 #![tactic(auto)]
+
 mod acting;
 mod items;
 mod numbers;

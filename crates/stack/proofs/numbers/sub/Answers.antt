@@ -1,0 +1,12 @@
+-- As `add`: a difference that is raised once more is never negative.
+use mathlib.Core.Path.{◌∙◌, sym}
+use native.Mathlib.Omega.{arith}
+use Rattle.fixed.proofs.Signs.{signed_is, signed_back}
+use Rattle.stack.specs.Operators.{sum_of}
+use Rattle.stack.proofs.Fits.{difference-is}
+use Rattle.stack.proofs.numbers.sub.Goals as goal
+
+pub returns : goal.returns
+unfolding sum_of
+returns c =
+    signed_is c.fit.result c.fit.type_inv (c.fit.ensures ∙ difference-is c.raised-a.result c.raised-b.result c.args.x c.args.y (sym (signed_back c.ranges.x) ∙ c.raised-a.ensures.1) (sym (signed_back c.ranges.y) ∙ c.raised-b.ensures.1) (omega (arith, c.raised-b.ensures.0)))
