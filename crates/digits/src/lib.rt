@@ -1,5 +1,6 @@
 // Text put into bytes that are lent: words, numbers in decimal, and the line of a designer's text that is refused.
 #![tactic(auto)]
+
 mod puts;
 mod texts;
 
