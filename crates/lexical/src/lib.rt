@@ -1,5 +1,6 @@
 // What designers' texts and calculator programs have in common, as ISO 32000-1 has it in 7.2 and 7.3: characters, numbers, and names as their bytes.
 #![tactic(auto)]
+
 mod chars;
 mod names;
 mod numbers;
