@@ -1,5 +1,6 @@
 // The flat form of a calculator program (clause 7.10.5), steps 12 and 13 of a recipe: checking its words.
 #![tactic(auto)]
+
 mod bits;
 mod checking;
 mod needs;
