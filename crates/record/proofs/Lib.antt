@@ -2,6 +2,6 @@
 pub mod Compared
 pub mod Runs
 pub mod Fours
-pub mod Ranges
+pub mod InRanges
 pub mod Shapes
 pub mod Same

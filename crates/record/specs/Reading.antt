@@ -19,8 +19,8 @@ use Rattle.record.specs.declared.types.Record.{Record}
 abbrev pub kind_at : List ℕ → ℕ
 kind_at b = byte_at b 0
 
-abbrev pub field_own : List ℕ → ℕ
-field_own b = two_at b 2
+abbrev pub own_at : List ℕ → ℕ
+own_at b = two_at b 2
 
 -- three numbers and four, from `at` on
 abbrev pub triple_at : List ℕ → ℕ → Triple
@@ -128,7 +128,7 @@ all_none s n = all_between (λ k. name_is s (name_place s k) the_none) 0 n
 
 -- the record that a block holds
 unfoldable pub record_at : List ℕ → Record
-record_at b = record { own = field_own b; body = body_at b; bytes = bytes_by (kind_at b) b }
+record_at b = record { own = own_at b; body = body_at b; bytes = bytes_by (kind_at b) b }
 
 -- two lists have the same block: a byte past the end of either is 0
 abbrev pub SameBytes : List ℕ → List ℕ → Type 0

@@ -2,6 +2,7 @@
 //
 // Functions that read take a page and the number of a block on it; a block that stands alone is block 0.
 #![tactic(auto)]
+
 mod fits;
 mod names;
 mod read;

@@ -9,9 +9,7 @@ use Rattle.fixed.proofs.Decide.{cond_ind}
 use Rattle.record.specs.Reading.{body_by}
 use Rattle.record.specs.Rules.{is_program}
 use Rattle.record.specs.declared.types.Body.{Body}
-use borrow.Author.Rules.{rules}
-use Rattle.record.proofs.read.is_program.Statement.{statement}
-use Rattle.record.proofs.read.is_program.Tie as tie
+use Rattle.record.proofs.read.is_program.Goals as goal
 
 by_kind : (k : ℕ) (b : List ℕ) → eqb k 7 ≡ is_program (body_by k b)
 unfolding body_by
@@ -30,11 +28,5 @@ by_kind k b =
     other : (j : ℕ) {t : Bool} → eqb k j ≡ true → eqb j 7 ≡ t → eqb k 7 ≡ t
     other j e h = rw (eqb-true k j e) h
 
-byte-at-requires : tie.Need-byte-at-requires
-byte-at-requires c κs = search rules
-
-returns : tie.Need-returns
-returns c = ap (λ (k : ℕ). eqb k 7) c.byte_at.ensures.0 ∙ by_kind _ _
-
-pub is-program-spec : {M : Type 1} → statement M
-is-program-spec = tie.close (tie.spec byte-at-requires returns)
+pub returns : goal.returns
+returns c = ap (λ (k : ℕ). eqb k 7) c.byte_at.ensures.is ∙ by_kind _ _
