@@ -1,5 +1,6 @@
 // From numbers to colours: the steps on f64 (FORMAT.md, Colour steps), each operation rounded once and in that order, and the closing steps that end in an answer.
 #![tactic(auto)]
+
 mod closings;
 mod lab_step;
 mod steps;
@@ -9,7 +10,7 @@ pub use lab_step::lab;
 pub use steps::{decode, gray, matrix, rgb, white};
 
 // A white point, or a colour's X, Y and Z.
-#[derive(Drop)]
+#[derive(Clone, Copy)]
 pub struct Xyz {
     pub x: f64,
     pub y: f64,
@@ -17,7 +18,7 @@ pub struct Xyz {
 }
 
 // CalRGB's components, decoded.
-#[derive(Drop)]
+#[derive(Clone, Copy)]
 pub struct Decoded {
     pub a: f64,
     pub b: f64,
@@ -25,7 +26,7 @@ pub struct Decoded {
 }
 
 // What is replied to a colour: its floats, or the refusal's number with the block that it is about (0 for the others).
-#[derive(Drop)]
+#[derive(Clone, Copy)]
 pub enum Answer {
     Gray(f64),
     Rgb(f64, f64, f64),
@@ -39,14 +40,14 @@ pub enum Answer {
 }
 
 // An answer, and whether a limit moved anything on the way to it. Beside a refusal that says nothing.
-#[derive(Drop)]
+#[derive(Clone, Copy)]
 pub struct Answered {
     pub answer: Answer,
     pub moved: bool,
 }
 
 // The numbers of CalGray's closing step: X and Z of the white point, and the gamma.
-#[derive(Drop)]
+#[derive(Clone, Copy)]
 pub struct GrayClosing {
     pub xw: i32,
     pub zw: i32,
@@ -54,7 +55,7 @@ pub struct GrayClosing {
 }
 
 // The numbers of CalRGB's closing step: three gammas, and the matrix in the record's order.
-#[derive(Drop)]
+#[derive(Clone, Copy)]
 pub struct RgbClosing {
     pub ga: i32,
     pub gb: i32,
@@ -71,14 +72,14 @@ pub struct RgbClosing {
 }
 
 // The numbers of Lab's closing step: X and Z of the white point.
-#[derive(Drop)]
+#[derive(Clone, Copy)]
 pub struct LabClosing {
     pub xw: i32,
     pub zw: i32,
 }
 
 // The closing step of a space. Nothing is that of no space.
-#[derive(Drop)]
+#[derive(Clone, Copy)]
 pub enum Closing {
     Nothing,
     Gray,

@@ -4,8 +4,7 @@ use Prim.Native.Nat.{ℕ, zero, suc, ◌≤◌}
 use native.Mathlib.Omega.{arith}
 use lib.Ieee.{Float}
 use Rattle.cie.specs.Steps.{decoded_whole}
-use Rattle.cie.proofs.steps.decode_whole.Statement.{statement}
-use Rattle.cie.proofs.steps.decode_whole.Tie as tie
+use Rattle.cie.proofs.steps.decode_whole.Goals as goal
 
 -- fewer than two units leave the number as it is
 few : (a : Float) (n : ℕ) → n ≤ 1 → a ≡ decoded_whole a n
@@ -14,20 +13,17 @@ few a zero h = refl
 few a (suc zero) h = refl
 few a (suc (suc n)) h = let never : ⊥ = omega arith in absurd never
 
-returns : tie.Need-returns
+pub returns-in-20 : goal.returns-in-20
 unfolding decoded_whole
-returns c = rw c.match.keys1
+returns-in-20 c = rw c.in-20.is
 
-returns-2 : tie.Need-returns-2
+pub returns-in-30 : goal.returns-in-30
 unfolding decoded_whole
-returns-2 c = rw c.match.keys2
+returns-in-30 c = rw c.in-30.is
 
-returns-3 : tie.Need-returns-3
+pub returns-in-40 : goal.returns-in-40
 unfolding decoded_whole
-returns-3 c = rw c.match.keys3
+returns-in-40 c = rw c.in-40.is
 
-returns-4 : tie.Need-returns-4
-returns-4 c = few _ _ (omega arith)
-
-pub decode-whole-spec : {M : Type 1} → statement M
-decode-whole-spec = tie.close (tie.spec returns returns-2 returns-3 returns-4)
+pub returns-in_default : goal.returns-in_default
+returns-in_default c = few _ _ (omega arith)
