@@ -1,5 +1,6 @@
 // The lexer of a designer's text: bytes to tokens, as ISO 32000-1 has them in 7.2 and 7.3. It reads on from any place, so a text may come in parts.
 #![tactic(auto)]
+
 mod ends;
 mod joins;
 mod moves;

@@ -1,0 +1,12 @@
+-- `skip`: what is found from byte i on is what is found from the start, since each byte passed over is plain; and the mode stays.
+use mathlib.Core.Path.{◌≡◌}
+use Prim.Native.Nat.{◌-◌, ◌≤◌}
+use lib.ListN.{length, drop}
+use Rattle.lexer.specs.Scans.{found, scan_at, longest}
+use Rattle.lexer.proofs.plain.skip.Given as goal
+
+abbrev pub invariant-loop-i : goal.invariant-loop-i
+invariant-loop-i l = (l.from ≤ l.i) × (length l.word ≡ longest) × (l.s.mode ≡ l.m) × (found (scan_at l.s l.word) (drop l.i l.text) ≡ found (scan_at l.initial.s l.initial.word) (drop l.from l.text))
+
+abbrev pub decreases-loop-i : goal.decreases-loop-i
+decreases-loop-i l = length l.text - l.i
