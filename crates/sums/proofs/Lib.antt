@@ -1,2 +1,2 @@
 -- Laws that several proofs cite: the check by columns is that of the format.
-pub mod Sums
+pub mod TwoSums
