@@ -4,13 +4,17 @@
 //     refused 12 at 40
 #![tactic(auto)]
 use judging::Reply;
-use libc::{STDERR_FILENO, STDIN_FILENO, STDOUT_FILENO};
+use std::io::{Read, Result};
 
 // The parts that are read at the most: one byte more than a text may have is refused.
 const PARTS: usize = 65537;
 
+// The bytes of a part.
+const PART_BYTES: usize = 65536;
+
 // Reads the text in parts of 65,536 bytes.
 fn read_text(
+    input: &mut impl Read,
     words: &mut [u64],
     values: &mut [i32],
     word: &mut [u8],
@@ -18,12 +22,12 @@ fn read_text(
     names: &mut [u8],
     opens: &mut [u32],
     blocks: &mut [u8],
-) {
+) -> Result<()> {
     let mut k: usize = 0;
     while k < PARTS {
         k += 1;
-        let mut read = io::large_buffer();
-        let n = io::read_full(STDIN_FILENO, &mut read);
+        let mut read = [0u8; PART_BYTES];
+        let n = text::read_full(input, &mut read)?;
         let room = designer::BLOCK_BYTES;
         designer::part(
             &read[..n],
@@ -36,26 +40,28 @@ fn read_text(
             opens,
             blocks,
         );
-        if n < 65536 {
-            return;
+        if n < PART_BYTES {
+            return Ok(());
         }
     }
+    Ok(())
 }
 
-fn write_refusal(number: u32, at: u32) {
+fn write_refusal(err: &impl Print, number: u32, at: u32) -> Result<()> {
     let mut line = [0u8; 64];
     let k = digits::refused_at(number, at, &mut line);
-    io::write_all(STDERR_FILENO, &line[..k]);
+    err.write_all(&line[..k])
 }
 
-fn write_page(room: &[u8], blocks: u32) {
+fn write_page(rt: &impl Print, room: &[u8], blocks: u32) -> Result<()> {
     let n = 512 * (blocks as usize);
     if n <= room.len() {
-        io::write_all(STDOUT_FILENO, &room[..n]);
+        return rt.write_all(&room[..n]);
     }
+    Ok(())
 }
 
-fn main() {
+fn main(rt: HostRuntime) -> Result<()> {
     let mut words = [0u64; designer::WORDS];
     let mut values = [0i32; designer::VALUES];
     let mut word = [0u8; designer::WORD_BYTES];
@@ -74,6 +80,7 @@ fn main() {
         &blocks,
     );
     read_text(
+        &mut rt.stdin(),
         &mut words,
         &mut values,
         &mut word,
@@ -81,7 +88,7 @@ fn main() {
         &mut names,
         &mut opens,
         &mut blocks,
-    );
+    )?;
     let r = designer::end(
         &mut room,
         &mut words,
@@ -93,7 +100,7 @@ fn main() {
         &mut blocks,
     );
     match r {
-        Reply::Page(n) => write_page(&room, n),
-        Reply::Refused(number, at) => write_refusal(number, at),
+        Reply::Page(n) => write_page(&rt, &room, n),
+        Reply::Refused(number, at) => write_refusal(&rt.stderr(), number, at),
     }
 }

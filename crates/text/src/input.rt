@@ -1,8 +1,11 @@
 // Numbers and bytes, read off a text. Nothing is refused: what is no number is 0.
-ghost use Rattle.std.specs.Prelude.{◌≤◌, ◌-◌, length};
+ghost use Rattle.std.specs.Prelude.{◌≤◌, ◌<◌, ◌-◌, length, take, IfOk};
+ghost use Rattle.std.specs.Io.{ReadsAtMost, StopsAt};
+ghost use Rattle.std.specs.Io.KnownBytes.{IsAtEnd};
+ghost use Rattle.text.specs.Reads.{ReadsInto};
 
-use libc::STDIN_FILENO;
 use octets::to_signed;
+use std::io::{Read, Result};
 
 // A number, and the place after it.
 #[derive(Drop)]
@@ -170,23 +173,43 @@ pub fn bytes_at(s: &[u8], at: usize, out: &mut [u8]) -> usize
     n
 }
 
-// Puts the next line of standard input at the start of `out`, its newline with it, as much as it holds, and answers how many bytes.
-pub fn line_in(out: &mut [u8]) -> usize
-    ensures { result ≤ length out.new }
+// Puts the next line of the input at the start of `out`, its newline with it, as much as it holds, and answers how many bytes. Where a read
+// fails, what came before it stands in `out`.
+pub fn line_in<R: Read>(input: &mut R, out: &mut [u8]) -> Result<usize>
+    ensures bound { ReadsAtMost result out.new }
+    ensures bytes { ReadsInto (R.remaining input.old) (R.remaining input.new) result out.new }
+    ensures line { IfOk result (λ n. StopsAt (take n out.new) 10) }
 {
     let mut n: usize = 0;
     while n < out.len() {
         let mut one = [0u8; 1];
-        let got = io::read_full(STDIN_FILENO, &mut one);
+        let got = input.read(&mut one)?;
         if got == 0 {
-            return n;
+            return Ok(n);
         }
         let c = one[0];
         out[n] = c;
         n += 1;
         if c == 10 {
-            return n;
+            return Ok(n);
         }
     }
-    n
+    Ok(n)
+}
+
+// Reads until `out` is full or the input ends, and answers how many bytes stand at the start of `out`. Where a read fails, what came before it stands there.
+pub fn read_full<R: Read>(input: &mut R, out: &mut [u8]) -> Result<usize>
+    ensures bound { ReadsAtMost result out.new }
+    ensures bytes { ReadsInto (R.remaining input.old) (R.remaining input.new) result out.new }
+    ensures end { IfOk result (λ n. n < length out.new → IsAtEnd (R.remaining input.new)) }
+{
+    let mut n: usize = 0;
+    while n < out.len() {
+        let got = input.read(&mut out[n..])?;
+        if got == 0 {
+            return Ok(n);
+        }
+        n += got;
+    }
+    Ok(n)
 }
