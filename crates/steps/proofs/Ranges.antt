@@ -1,6 +1,6 @@
 -- What the tests of a step's small numbers say: they are in range, and a table has few entries.
 use mathlib.Core.Path.{◌≡◌, sym, ◌∙◌, ap, ap₂}
-use mathlib.Core.Bool.{Bool, true, false, ◌&&◌, not}
+use mathlib.Core.Bool.{Bool, true, false, ◌&&◌}
 use mathlib.Core.List.{List, [], ◌∷◌}
 use Prim.Native.Nat.{ℕ, ◌+◌, ◌*◌, ◌≤◌}
 use native.Mathlib.Nat.{mul-le-mul}
@@ -8,7 +8,7 @@ use native.Mathlib.Omega.{arith}
 use lib.IntN.{ℤ}
 use lib.Dec.{leb}
 use lib.ListN.{length}
-use borrow.Author.Tests.{leb-true, not-true, not-false}
+use borrow.Author.Tests.{leb-true}
 use Rattle.fixed.specs.Numbers.{greatest, exponent_supported}
 use Rattle.fixed.specs.Values.{value, small_of, places, widest, fills, makes}
 use Rattle.fixed.proofs.Decide.{and_left, and_right}
@@ -44,13 +44,13 @@ module _ (m h : ℕ) {t : Bool} (e : t ≡ fills m) where
   joined : (t && leb h 255) ≡ (fills m && leb h 255)
   joined = ap (λ (b : Bool). b && leb h 255) e
 
-  pub row-no : not (t && leb h 255) ≡ true → (fills m && leb h 255) ≡ false
-  row-no f = sym joined ∙ not-true _ f
+  pub row-no : (t && leb h 255) ≡ false → (fills m && leb h 255) ≡ false
+  row-no f = sym joined ∙ f
 
-  pub row-yes : not (t && leb h 255) ≡ false → (fills m && leb h 255) ≡ true
-  row-yes f = sym joined ∙ not-false _ f
+  pub row-yes : (t && leb h 255) ≡ true → (fills m && leb h 255) ≡ true
+  row-yes f = sym joined ∙ f
 
-  pub row-few : not (t && leb h 255) ≡ false → m * (h + 1) ≤ places * 256
+  pub row-few : (t && leb h 255) ≡ true → m * (h + 1) ≤ places * 256
   row-few f = let r = row-range m h (row-yes f) in few m h r.1 r.2
 
 -- and those of a tint step's
@@ -58,11 +58,11 @@ module _ (x m : ℕ) {t u : Bool} (e : t ≡ exponent_supported x) (f : u ≡ ma
   tint-joined : (t && u) ≡ (exponent_supported x && makes m)
   tint-joined = ap₂ ◌&&◌ e f
 
-  pub tint-no : not (t && u) ≡ true → (exponent_supported x && makes m) ≡ false
-  tint-no g = sym tint-joined ∙ not-true _ g
+  pub tint-no : (t && u) ≡ false → (exponent_supported x && makes m) ≡ false
+  tint-no g = sym tint-joined ∙ g
 
-  pub tint-yes : not (t && u) ≡ false → (exponent_supported x && makes m) ≡ true
-  tint-yes g = sym tint-joined ∙ not-false _ g
+  pub tint-yes : (t && u) ≡ true → (exponent_supported x && makes m) ≡ true
+  tint-yes g = sym tint-joined ∙ g
 
 -- a recipe that begins with a count has a word
 pub some_word : (l : List ℤ) {n : ℕ} {t : Bool} → n ≡ small_of (value l 0) → t ≡ fills n → t ≡ true → 1 ≤ length l

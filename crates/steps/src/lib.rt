@@ -1,5 +1,6 @@
 // The steps of a recipe: each read off the front of the recipe's words.
 #![tactic(auto)]
+
 mod parse;
 mod words;
 
