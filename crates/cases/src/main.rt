@@ -5,9 +5,12 @@
 // The numbers are decimal; the bytes are two hexadecimal digits each, or a full stop for a zero byte. The reference implementation writes the input and
 // what is expected of each line.
 #![tactic(auto)]
+
 mod asking;
 mod pages;
 mod run;
+
+use std::io::Result;
 
 // A program ends: so many lines are read at the most.
 const LINES: usize = 100000;
@@ -15,16 +18,18 @@ const LINES: usize = 100000;
 // The most bytes of a line, and of a case: those of two pages of the most blocks.
 const BYTES: usize = 2 * 512 * (fixed::BLOCKS as usize);
 
-fn main() {
+fn main(rt: HostRuntime) -> Result<()> {
     let mut read = [0u8; BYTES];
     let mut room = [0u8; BYTES];
+    let mut input = rt.stdin();
     let mut k: usize = 0;
     while k < LINES {
-        let n = text::line_in(&mut read);
+        let n = text::line_in(&mut input, &mut read)?;
         if n == 0 {
-            return;
+            return Ok(());
         }
-        run::line(&read[..n], &mut room);
+        run::line(&rt, &read[..n], &mut room)?;
         k += 1;
     }
+    Ok(())
 }

@@ -7,16 +7,17 @@ use octets::{number_at, of_signed};
 use page::{Verdict, validate};
 use recipe::{Written, write};
 use runner::run;
+use std::io::Result;
 use text::{say, say_answer, say_next, say_refusal, say_size};
 
 // Room for the words of a case: those of the longest recipe, and a few more, for one that is too long.
 const WORDS: usize = fixed::LONGEST + 16;
 
-fn validate_case(page: &[u8]) {
+fn validate_case(rt: &impl Print, page: &[u8]) -> Result<()> {
     let v = validate(page);
     match v {
-        Verdict::Accepted => say(b"accepted"),
-        Verdict::Refused { number, block } => say_refusal(number, block),
+        Verdict::Accepted => say(rt, b"accepted"),
+        Verdict::Refused { number, block } => say_refusal(rt, number, block),
     }
 }
 
@@ -41,9 +42,12 @@ fn components_from(v: [i32; 24], from: u32) -> [i32; 20] {
     c
 }
 
-fn evaluate_case(v: [i32; 24], page: &[u8]) {
+fn evaluate_case(rt: &impl Print, v: [i32; 24], page: &[u8]) -> Result<()> {
     let c = components_from(v, 3);
-    say_answer(evaluate(page, of_signed(v[1]), first(&c, of_signed(v[2]))));
+    say_answer(
+        rt,
+        evaluate(page, of_signed(v[1]), first(&c, of_signed(v[2]))),
+    )
 }
 
 // Whether each word from `at` on is 7.
@@ -58,47 +62,50 @@ fn is_kept(s: &[i32], at: usize) -> bool {
     true
 }
 
-fn say_words(s: &[i32], n: usize) {
+fn say_words(rt: &impl Print, s: &[i32], n: usize) -> Result<()> {
     let mut i: usize = 0;
     while i < s.len() {
         if n <= i {
-            return;
+            return Ok(());
         }
-        say_next(s[i]);
+        say_next(rt, s[i])?;
         i += 1;
     }
+    Ok(())
 }
 
 // Writes a recipe into words that hold 7.
-fn write_into(page: &[u8], n: u32, s: &mut [i32]) {
+fn write_into(rt: &impl Print, page: &[u8], n: u32, s: &mut [i32]) -> Result<()> {
     let reply = write(page, n, s);
     match reply {
         Written::Words(count) => {
-            say(b"words ");
-            say_size(count);
+            say(rt, b"words ")?;
+            say_size(rt, count)?;
             if is_kept(s, count as usize) {
-                say(b" kept");
+                say(rt, b" kept")?;
             }
-            say_words(s, count as usize);
+            say_words(rt, s, count as usize)
         }
         Written::Refused { number, block } => {
-            say_refusal(number, block);
+            say_refusal(rt, number, block)?;
             if is_kept(s, 0) {
-                say(b" kept");
+                say(rt, b" kept")?;
             }
+            Ok(())
         }
     }
 }
 
-fn lent(s: &mut [i32], n: usize, page: &[u8], space: u32) {
+fn lent(rt: &impl Print, s: &mut [i32], n: usize, page: &[u8], space: u32) -> Result<()> {
     if n <= s.len() {
-        write_into(page, space, &mut s[..n]);
+        write_into(rt, page, space, &mut s[..n])?;
     }
+    Ok(())
 }
 
-fn write_case(v: [i32; 24], page: &[u8]) {
+fn write_case(rt: &impl Print, v: [i32; 24], page: &[u8]) -> Result<()> {
     let mut s = [7i32; WORDS];
-    lent(&mut s, of_signed(v[2]) as usize, page, of_signed(v[1]));
+    lent(rt, &mut s, of_signed(v[2]) as usize, page, of_signed(v[1]))
 }
 
 // The words that bytes are, four to a word.
@@ -114,46 +121,47 @@ fn words_of(s: &[u8], out: &mut [i32]) {
     }
 }
 
-fn run_case(v: [i32; 24], bytes: &[u8]) {
+fn run_case(rt: &impl Print, v: [i32; 24], bytes: &[u8]) -> Result<()> {
     let mut s = [0i32; WORDS];
     words_of(bytes, &mut s);
     let c = components_from(v, 2);
     let n = (bytes.len() / 4) % (WORDS + 1);
-    say_answer(run(first(&s, n as u32), first(&c, of_signed(v[1]))));
+    say_answer(rt, run(first(&s, n as u32), first(&c, of_signed(v[1]))))
 }
 
-fn say_joined(x: u8, last: bool) {
+fn say_joined(rt: &impl Print, x: u8, last: bool) -> Result<()> {
     if x != b'\n' {
         let one = [x];
-        say(&one);
-        return;
+        return say(rt, &one);
     }
     if !last {
-        say(b"; ");
+        say(rt, b"; ")?;
     }
+    Ok(())
 }
 
 // The listing, its lines joined by semicolons.
-fn list_case(page: &[u8]) {
+fn list_case(rt: &impl Print, page: &[u8]) -> Result<()> {
     let mut text = [0u8; LONGEST];
     let n = list(page, &mut text);
     let mut i: usize = 0;
     while i < n {
-        say_joined(text[i], i + 1 == n);
+        say_joined(rt, text[i], i + 1 == n)?;
         i += 1;
     }
+    Ok(())
 }
 
 // Operations 30 to 36: validating, evaluating, writing a recipe, running one, listing, asking for an ink, reading a text.
-pub fn page_case(op: u32, v: [i32; 24], bytes: &[u8]) {
+pub fn page_case(rt: &impl Print, op: u32, v: [i32; 24], bytes: &[u8]) -> Result<()> {
     match op {
-        30 => validate_case(bytes),
-        31 => evaluate_case(v, bytes),
-        32 => write_case(v, bytes),
-        33 => run_case(v, bytes),
-        34 => list_case(bytes),
-        35 => ink_case(v, bytes),
-        36 => text_case(v, bytes),
-        _ => say(b"no such case"),
+        30 => validate_case(rt, bytes),
+        31 => evaluate_case(rt, v, bytes),
+        32 => write_case(rt, v, bytes),
+        33 => run_case(rt, v, bytes),
+        34 => list_case(rt, bytes),
+        35 => ink_case(rt, v, bytes),
+        36 => text_case(rt, v, bytes),
+        _ => say(rt, b"no such case"),
     }
 }

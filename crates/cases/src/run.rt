@@ -2,10 +2,11 @@
 use crate::pages::page_case;
 use octets::of_signed;
 use small_cases::{block_case, number_case, step_case};
+use std::io::Result;
 use text::{bytes_at, find, numbers_at, say};
 
 // Runs a case whose operation and numbers stand from `at` on; its bytes go into `room`.
-fn case(s: &[u8], at: usize, room: &mut [u8]) {
+fn case(rt: &impl Print, s: &[u8], at: usize, room: &mut [u8]) -> Result<()> {
     let read = numbers_at(s, at);
     let v = read.values;
     let next = read.next;
@@ -14,28 +15,25 @@ fn case(s: &[u8], at: usize, room: &mut [u8]) {
     let n = bytes_at(s, from, room);
     let op = of_signed(v[0]);
     if op < 10 {
-        number_case(op, v, &room[..n]);
-        return;
+        return number_case(rt, op, v, &room[..n]);
     }
     if op < 20 {
-        step_case(op, v);
-        return;
+        return step_case(rt, op, v);
     }
     if op < 30 {
-        block_case(op, v, &room[..n]);
-        return;
+        return block_case(rt, op, v, &room[..n]);
     }
-    page_case(op, v, &room[..n]);
+    page_case(rt, op, v, &room[..n])
 }
 
 // Runs the case of a line, and writes its label and what comes of it.
-pub fn line(s: &[u8], room: &mut [u8]) {
+pub fn line(rt: &impl Print, s: &[u8], room: &mut [u8]) -> Result<()> {
     let colon = find(s, 0, b':');
     if colon == s.len() {
-        return;
+        return Ok(());
     }
-    say(&s[..colon]);
-    say(b": ");
-    case(s, colon + 1, room);
-    say(b"\n");
+    say(rt, &s[..colon])?;
+    say(rt, b": ")?;
+    case(rt, s, colon + 1, room)?;
+    say(rt, b"\n")
 }

@@ -4,6 +4,7 @@ ghost use Rattle.std.specs.Prelude.{◌≤◌};
 use judging::Reply;
 use octets::of_signed;
 use small_cases::is_kept;
+use std::io::Result;
 use text::{say, say_dotted, say_size};
 
 // The most room that a case lends: twice what the most blocks need.
@@ -67,39 +68,42 @@ fn is_same(a: Reply, b: Reply) -> bool {
     }
 }
 
-fn say_page(n: u32, room: &[u8]) {
+fn say_page(rt: &impl Print, n: u32, room: &[u8]) -> Result<()> {
     let size = 512 * (n as usize);
     if room.len() < size {
-        return;
+        return Ok(());
     }
-    say(b"page ");
-    say_size(n);
-    say(b" x");
-    say_dotted(&room[..size]);
+    say(rt, b"page ")?;
+    say_size(rt, n)?;
+    say(rt, b" x")?;
+    say_dotted(rt, &room[..size])?;
     if is_kept(&room[size..]) {
-        say(b" kept");
+        say(rt, b" kept")?;
     }
+    Ok(())
 }
 
-fn say_refused(number: u32, at: u32, room: &[u8]) {
-    say(b"refused ");
-    say_size(number);
-    say(b" at ");
-    say_size(at);
+fn say_refused(rt: &impl Print, number: u32, at: u32, room: &[u8]) -> Result<()> {
+    say(rt, b"refused ")?;
+    say_size(rt, number)?;
+    say(rt, b" at ")?;
+    say_size(rt, at)?;
     if is_kept(room) {
-        say(b" kept");
+        say(rt, b" kept")?;
     }
+    Ok(())
 }
 
-fn say_reply(r: Reply, room: &[u8]) {
+fn say_reply(rt: &impl Print, r: Reply, room: &[u8]) -> Result<()> {
     match r {
-        Reply::Page(n) => say_page(n, room),
-        Reply::Refused(number, at) => say_refused(number, at, room),
+        Reply::Page(n) => say_page(rt, n, room),
+        Reply::Refused(number, at) => say_refused(rt, number, at, room),
     }
 }
 
 // Ends a text twice, and says what the second end replies, and where the first replied otherwise.
 fn end_twice(
+    rt: &impl Print,
     room: &mut [u8],
     words: &mut [u64],
     values: &mut [i32],
@@ -108,17 +112,18 @@ fn end_twice(
     names: &mut [u8],
     opens: &mut [u32],
     blocks: &mut [u8],
-) {
+) -> Result<()> {
     let first = designer::end(room, words, values, word, marks, names, opens, blocks);
     let second = designer::end(room, words, values, word, marks, names, opens, blocks);
-    say_reply(second, room);
+    say_reply(rt, second, room)?;
     if !is_same(first, second) {
-        say(b" not as before");
+        say(rt, b" not as before")?;
     }
+    Ok(())
 }
 
 // Reads a text into room that holds AA, over memory that nobody has cleared.
-fn read_into(room: &mut [u8], size: usize, text: &[u8]) {
+fn read_into(rt: &impl Print, room: &mut [u8], size: usize, text: &[u8]) -> Result<()> {
     let mut words = [7u64; designer::WORDS];
     let mut values = [7i32; designer::VALUES];
     let mut word = [0xaau8; designer::WORD_BYTES];
@@ -148,6 +153,7 @@ fn read_into(room: &mut [u8], size: usize, text: &[u8]) {
         &mut blocks,
     );
     end_twice(
+        rt,
         room,
         &mut words,
         &mut values,
@@ -156,14 +162,15 @@ fn read_into(room: &mut [u8], size: usize, text: &[u8]) {
         &mut names,
         &mut opens,
         &mut blocks,
-    );
+    )
 }
 
 // Operation 36: a text in parts, with its room and the size of a part before it.
-pub fn text_case(v: [i32; 24], text: &[u8]) {
+pub fn text_case(rt: &impl Print, v: [i32; 24], text: &[u8]) -> Result<()> {
     let mut room = [0xaau8; ROOM];
     let n = of_signed(v[1]) as usize;
     if n <= ROOM {
-        read_into(&mut room[..n], of_signed(v[2]) as usize, text);
+        read_into(rt, &mut room[..n], of_signed(v[2]) as usize, text)?;
     }
+    Ok(())
 }

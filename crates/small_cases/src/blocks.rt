@@ -2,118 +2,120 @@
 use block::{Reply, read, write};
 use octets::of_signed;
 use record::{Body, CalGray, CalRgb, Four, Lab, Ranges, Record, Separation, Triple};
+use std::io::Result;
 use text::{say, say_dotted, say_next, say_size};
 
-fn say_triple(t: Triple) {
-    say_next(t.x);
-    say_next(t.y);
-    say_next(t.z);
+fn say_triple(rt: &impl Print, t: Triple) -> Result<()> {
+    say_next(rt, t.x)?;
+    say_next(rt, t.y)?;
+    say_next(rt, t.z)
 }
 
-fn say_four(q: Four) {
-    say_next(q.a);
-    say_next(q.b);
-    say_next(q.c);
-    say_next(q.d);
+fn say_four(rt: &impl Print, q: Four) -> Result<()> {
+    say_next(rt, q.a)?;
+    say_next(rt, q.b)?;
+    say_next(rt, q.c)?;
+    say_next(rt, q.d)
 }
 
-fn say_unsigned(n: u32) {
-    say(b" ");
-    say_size(n);
+fn say_unsigned(rt: &impl Print, n: u32) -> Result<()> {
+    say(rt, b" ")?;
+    say_size(rt, n)
 }
 
-fn say_gray(g: CalGray) {
+fn say_gray(rt: &impl Print, g: CalGray) -> Result<()> {
     let white = g.white;
     let black = g.black;
-    say(b" 1");
-    say_triple(white);
-    say_triple(black);
-    say_next(g.gamma);
+    say(rt, b" 1")?;
+    say_triple(rt, white)?;
+    say_triple(rt, black)?;
+    say_next(rt, g.gamma)
 }
 
-fn say_rgb(g: CalRgb) {
+fn say_rgb(rt: &impl Print, g: CalRgb) -> Result<()> {
     let white = g.white;
     let black = g.black;
     let gammas = g.gammas;
     let a = g.a;
     let b = g.b;
     let c = g.c;
-    say(b" 2");
-    say_triple(white);
-    say_triple(black);
-    say_triple(gammas);
-    say_triple(a);
-    say_triple(b);
-    say_triple(c);
+    say(rt, b" 2")?;
+    say_triple(rt, white)?;
+    say_triple(rt, black)?;
+    say_triple(rt, gammas)?;
+    say_triple(rt, a)?;
+    say_triple(rt, b)?;
+    say_triple(rt, c)
 }
 
-fn say_lab(g: Lab) {
+fn say_lab(rt: &impl Print, g: Lab) -> Result<()> {
     let white = g.white;
     let black = g.black;
     let range = g.range;
-    say(b" 3");
-    say_triple(white);
-    say_triple(black);
-    say_next(range.amin);
-    say_next(range.amax);
-    say_next(range.bmin);
-    say_next(range.bmax);
+    say(rt, b" 3")?;
+    say_triple(rt, white)?;
+    say_triple(rt, black)?;
+    say_next(rt, range.amin)?;
+    say_next(rt, range.amax)?;
+    say_next(rt, range.bmin)?;
+    say_next(rt, range.bmax)
 }
 
 // The first n of the bytes.
-fn say_first(bytes: &[u8], n: usize) {
+fn say_first(rt: &impl Print, bytes: &[u8], n: usize) -> Result<()> {
     if n <= bytes.len() {
-        say_dotted(&bytes[..n]);
+        say_dotted(rt, &bytes[..n])?;
     }
+    Ok(())
 }
 
-fn say_separation(p: Separation, bytes: &[u8]) {
+fn say_separation(rt: &impl Print, p: Separation, bytes: &[u8]) -> Result<()> {
     let c0 = p.c0;
     let c1 = p.c1;
-    say(b" 5");
-    say_unsigned(p.alternate as u32);
-    say_unsigned(p.exponent as u32);
-    say_unsigned(p.name_len as u32);
-    say_four(c0);
-    say_four(c1);
-    say(b" x");
-    say_first(bytes, 128);
+    say(rt, b" 5")?;
+    say_unsigned(rt, p.alternate as u32)?;
+    say_unsigned(rt, p.exponent as u32)?;
+    say_unsigned(rt, p.name_len as u32)?;
+    say_four(rt, c0)?;
+    say_four(rt, c1)?;
+    say(rt, b" x")?;
+    say_first(rt, bytes, 128)
 }
 
-fn say_device_n(alternate: u16, count: u8, bytes: &[u8]) {
-    say(b" 8");
-    say_unsigned(alternate as u32);
-    say_unsigned(count as u32);
-    say(b" x");
-    say_first(bytes, 500);
+fn say_device_n(rt: &impl Print, alternate: u16, count: u8, bytes: &[u8]) -> Result<()> {
+    say(rt, b" 8")?;
+    say_unsigned(rt, alternate as u32)?;
+    say_unsigned(rt, count as u32)?;
+    say(rt, b" x")?;
+    say_first(rt, bytes, 500)
 }
 
-fn say_body(y: Body, bytes: &[u8]) {
+fn say_body(rt: &impl Print, y: Body, bytes: &[u8]) -> Result<()> {
     match y {
-        Body::Free => say(b" 0"),
-        Body::CalGray(g) => say_gray(g),
-        Body::CalRgb(g) => say_rgb(g),
-        Body::Lab(g) => say_lab(g),
+        Body::Free => say(rt, b" 0"),
+        Body::CalGray(g) => say_gray(rt, g),
+        Body::CalRgb(g) => say_rgb(rt, g),
+        Body::Lab(g) => say_lab(rt, g),
         Body::Indexed { base, hival } => {
-            say(b" 4");
-            say_unsigned(base as u32);
-            say_unsigned(hival as u32);
+            say(rt, b" 4")?;
+            say_unsigned(rt, base as u32)?;
+            say_unsigned(rt, hival as u32)
         }
-        Body::Separation(p) => say_separation(p, bytes),
+        Body::Separation(p) => say_separation(rt, p, bytes),
         Body::Palette => {
-            say(b" 6 x");
-            say_dotted(bytes);
+            say(rt, b" 6 x")?;
+            say_dotted(rt, bytes)
         }
         Body::Program => {
-            say(b" 7 x");
-            say_dotted(bytes);
+            say(rt, b" 7 x")?;
+            say_dotted(rt, bytes)
         }
-        Body::DeviceN { alternate, count } => say_device_n(alternate, count, bytes),
+        Body::DeviceN { alternate, count } => say_device_n(rt, alternate, count, bytes),
     }
 }
 
 // Reads a block.
-fn read_case(b: &[u8]) {
+fn read_case(rt: &impl Print, b: &[u8]) -> Result<()> {
     let a = read(b);
     let reply = a.reply;
     match reply {
@@ -121,12 +123,12 @@ fn read_case(b: &[u8]) {
             let r = a.found;
             let y = r.body;
             let bytes = r.bytes;
-            say_size(r.own as u32);
-            say_body(y, &bytes);
+            say_size(rt, r.own as u32)?;
+            say_body(rt, y, &bytes)
         }
         Reply::Refused(n) => {
-            say(b"refused ");
-            say_size(n);
+            say(rt, b"refused ")?;
+            say_size(rt, n)
         }
     }
 }
@@ -285,7 +287,7 @@ pub fn is_kept(s: &[u8]) -> bool {
 }
 
 // Writes a record into bytes that hold AA.
-fn write_case(v: [i32; 24], s: &[u8]) {
+fn write_case(rt: &impl Print, v: [i32; 24], s: &[u8]) -> Result<()> {
     let body = body_of(v);
     let bytes = room_of(s);
     let r = Record {
@@ -297,24 +299,25 @@ fn write_case(v: [i32; 24], s: &[u8]) {
     let reply = write(r, &mut out);
     match reply {
         Reply::Done => {
-            say(b"x");
-            say_dotted(&out);
+            say(rt, b"x")?;
+            say_dotted(rt, &out)
         }
         Reply::Refused(n) => {
-            say(b"refused ");
-            say_size(n);
+            say(rt, b"refused ")?;
+            say_size(rt, n)?;
             if is_kept(&out) {
-                say(b" kept");
+                say(rt, b" kept")?;
             }
+            Ok(())
         }
     }
 }
 
 // Operations 20 and 21: reading a block, writing a record.
-pub fn block_case(op: u32, v: [i32; 24], bytes: &[u8]) {
+pub fn block_case(rt: &impl Print, op: u32, v: [i32; 24], bytes: &[u8]) -> Result<()> {
     match op {
-        20 => read_case(bytes),
-        21 => write_case(v, bytes),
-        _ => say(b"no such case"),
+        20 => read_case(rt, bytes),
+        21 => write_case(rt, v, bytes),
+        _ => say(rt, b"no such case"),
     }
 }

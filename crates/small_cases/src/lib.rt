@@ -1,5 +1,6 @@
 // Cases of what is smaller than a page, for the program `cases`: numbers, steps, and one block by itself.
 #![tactic(auto)]
+
 mod blocks;
 mod numbers;
 mod steps;
