@@ -13,7 +13,7 @@ pub const NAME_FROM: u32 = 8;
 pub const NAMES: u32 = 500;
 
 // Three numbers: a point of XYZ, or one for each of three components.
-#[derive(Drop)]
+#[derive(Clone, Copy, Drop)]
 pub struct Triple {
     pub x: i32,
     pub y: i32,
@@ -21,7 +21,7 @@ pub struct Triple {
 }
 
 // The ranges of a* and b*.
-#[derive(Drop)]
+#[derive(Clone, Copy, Drop)]
 pub struct Ranges {
     pub amin: i32,
     pub amax: i32,
@@ -30,7 +30,7 @@ pub struct Ranges {
 }
 
 // A number for each component of an alternate space, of which there are up to four.
-#[derive(Drop)]
+#[derive(Clone, Copy, Drop)]
 pub struct Four {
     pub a: i32,
     pub b: i32,
@@ -39,7 +39,7 @@ pub struct Four {
 }
 
 // A CalGray space.
-#[derive(Drop)]
+#[derive(Clone, Copy, Drop)]
 pub struct CalGray {
     pub white: Triple,
     pub black: Triple,
@@ -47,7 +47,7 @@ pub struct CalGray {
 }
 
 // A CalRGB space. Its matrix is a, b and c, the XYZ of each component.
-#[derive(Drop)]
+#[derive(Clone, Copy, Drop)]
 pub struct CalRgb {
     pub white: Triple,
     pub black: Triple,
@@ -58,7 +58,7 @@ pub struct CalRgb {
 }
 
 // A Lab space.
-#[derive(Drop)]
+#[derive(Clone, Copy, Drop)]
 pub struct Lab {
     pub white: Triple,
     pub black: Triple,
@@ -66,7 +66,7 @@ pub struct Lab {
 }
 
 // A Separation space. Its name stands in the first bytes of the record's room, name_len of them.
-#[derive(Drop)]
+#[derive(Clone, Copy, Drop)]
 pub struct Separation {
     pub alternate: u16,
     pub exponent: u8,
@@ -76,7 +76,7 @@ pub struct Separation {
 }
 
 // What a block's kind says it holds.
-#[derive(Drop)]
+#[derive(Clone, Copy, Drop)]
 pub enum Body {
     Free,
     CalGray(CalGray),

@@ -1,5 +1,6 @@
 // What is refused of one record, by the definitions of `record`, Rules: the form of its block, the clause rules, the house limits, and what is spare.
 #![tactic(auto)]
+
 mod naming;
 mod rules;
 mod shape;
