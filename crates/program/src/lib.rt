@@ -1,5 +1,6 @@
 // Calculator text (clause 7.10.5): its program, and the words of the program's flat form.
 #![tactic(auto)]
+
 mod braces;
 mod compiling;
 mod counts;
