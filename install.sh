@@ -1,7 +1,7 @@
 #!/usr/bin/env bash
 # install.sh PREFIX: the headers, the two static libraries, a shared library made of the first, and a pkg-config file, below PREFIX, as /usr/local; and where it is
 # built the desk program, with its man page and its completion for bash. With DESTDIR set all of it goes below that, for who makes a package. The static libraries
-# come from `rt staticlib sktelbaan` and `rt staticlib sktelbaan_runner`, the program from `cargo build --release --offline --package desk`.
+# come from `tools/staticlib sktelbaan sktelbaan_runner`, the program from `cargo build --release --offline --package desk`.
 set -euo pipefail
 [ $# -eq 1 ] || { echo "usage: install.sh PREFIX" >&2; exit 2; }
 prefix=$(realpath -m "$1")
@@ -10,7 +10,7 @@ cd "$(dirname "$0")"
 headers=(include/sktelbaan.h include/sktelbaan_runner.h)
 archives=(target/staticlib/libsktelbaan.a target/staticlib/libsktelbaan_runner.a)
 for archive in "${archives[@]}"; do
-    [ -f "$archive" ] || { name=${archive##*/lib}; echo "$archive is missing: run \`rt staticlib ${name%.a}\`" >&2; exit 1; }
+    [ -f "$archive" ] || { name=${archive##*/lib}; echo "$archive is missing: run \`tools/staticlib ${name%.a}\`" >&2; exit 1; }
 done
 version=$(sed -n 's/^#define SKTELBAAN_VERSION "\(.*\)"$/\1/p' "${headers[@]}")
 major=${version%%.*}

@@ -1,4 +1,4 @@
-//! Links the library that `rt staticlib sktelbaan` writes, one folder up from this crate.
+//! Links the library that `tools/staticlib sktelbaan` writes, one folder up from this crate.
 
 use std::path::Path;
 
@@ -9,7 +9,7 @@ fn main() {
     println!("cargo:rerun-if-changed=build.rs");
     println!("cargo:rerun-if-changed={}", archive.display());
     if !archive.exists() {
-        eprintln!("target/staticlib/libsktelbaan.a is missing: run `rt staticlib sktelbaan`");
+        eprintln!("target/staticlib/libsktelbaan.a is missing: run `tools/staticlib sktelbaan`");
         std::process::exit(1);
     }
     println!("cargo:rustc-link-search=native={}", folder.display());

@@ -387,14 +387,14 @@ Pages and texts to try. `NAME.page` is a page of 512-byte blocks, `NAME.txt` bes
 `colour.c` is a C program that evaluates a colour, writes the space's recipe, runs it and prints both answers, with the word `moved` after one whose
 colour was pulled in. `run.c` runs a recipe that it wrote, with the plate setter's library alone. `ink.c` asks for an ink by its name, of a job's page and
 a house page. `edges.c` checks the C interface at its edges, and `stack.c` measures the machine's stack that a run takes. With the libraries in
-`target/staticlib/` (`rt staticlib sktelbaan` and `rt staticlib sktelbaan_runner` put them there), `samples/build` compiles all five, runs the first two
+`target/staticlib/` (`tools/staticlib sktelbaan sktelbaan_runner` puts them there), `samples/build` compiles all five, runs the first two
 on the colours of `colours.txt` and the third on the inks of `inks.txt`, and compares what they print with these texts.
 
 `deck.txt` and `refused.txt` are designers' texts, written by hand. `deck.lst` has what is printed by
 
-    target/bin/reading < samples/deck.txt | target/bin/listing
+    crates/reading/out/reading < samples/deck.txt | crates/listing/out/listing
 
-and `refused.lst` the line that `target/bin/reading < samples/refused.txt` prints to standard error.
+and `refused.lst` the line that `crates/reading/out/reading < samples/refused.txt` prints to standard error.
 
 `desk.lst` has sessions of the desk program, which `desk/replay` runs; a test holds its floats to the second implementation's.
 ",
