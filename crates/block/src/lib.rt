@@ -1,5 +1,6 @@
 // A record as a block of 512 bytes: writing it, reading it, and the two round trips.
 #![tactic(auto)]
+
 mod reading;
 mod trips;
 mod types;

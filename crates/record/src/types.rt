@@ -92,7 +92,7 @@ pub enum Body {
 
 // A record: its own number, its body, and room for bytes, with a Separation's name in the first 128 places, a DeviceN's names in the first 500, or a part of a
 // palette or of a program's text in all 504.
-#[derive(Drop)]
+#[derive(Clone, Copy, Drop)]
 pub struct Record {
     pub own: u16,
     pub body: Body,
