@@ -1,6 +1,7 @@
 // Calculator programs (clause 7.10.5) on a page: whether the run of blocks after a record is filled as it must be,
 // judging the text that lies there, and the words of its program.
 #![tactic(auto)]
+
 mod filling;
 mod judging;
 mod texts;

@@ -1,0 +1,18 @@
+-- The words that are compiled are the program's flat form, which does what the program means.
+use mathlib.Core.Path.{ap, ◌∙◌}
+use mathlib.Core.List.{List}
+use lib.IntN.{ℤ}
+use Rattle.program.specs.Texts.{read_of}
+use Rattle.form.specs.Steps.{form_step}
+use Rattle.form.proofs.Filled.{form-is-program}
+use Rattle.tinting.proofs.Made.{form-made}
+use Rattle.calculator.specs.Calculator.{code_in}
+use Rattle.calculator.proofs.Runs.{words-code}
+use Rattle.calculator.proofs.words.step.Goals as goal
+
+pub returns : goal.returns
+returns c =
+    let a = c.args in
+    let words = c.compile-n.ensures.is ∙ words-code (read_of a.text.now) in
+    form-made a.c a.taken a.count _ c.step-out.ensures.leaves c.step-out.ensures.moves
+    ∙ (ap (λ (ws : List ℤ). form_step a.taken a.count ws a.c) words ∙ form-is-program a.taken a.count (code_in (read_of a.text.now)) a.c)
