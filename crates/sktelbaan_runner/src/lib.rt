@@ -2,6 +2,7 @@
 //
 // A reply is 64 bits. Its low half is the number of a refusal, or 0. Its high half is then the block that the refusal is about, or else what the operation gives.
 #![tactic(auto)]
+
 ghost use Rattle.std.specs.Prelude.{◌≡◌};
 ghost use Rattle.runner.specs.Runs.{ran};
 ghost use Rattle.sktelbaan_runner.specs.Replies.{reply_of, floats_of};
