@@ -2,6 +2,7 @@
 // read once, and the rest is asked of that. Nothing here asks that the page was validated: a byte past the page is 0, and a number that is no space's has no
 // components.
 #![tactic(auto)]
+
 mod nesting;
 mod numbers;
 mod ranges;
