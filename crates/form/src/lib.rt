@@ -15,7 +15,7 @@ pub use placed::is_form_at;
 pub use taking::{nearest_count, taken};
 
 // Which tints a program takes: the one of a Separation, or as many as a DeviceN has names.
-#[derive(Drop)]
+#[derive(Clone, Copy, Drop)]
 pub enum Tints {
     One,
     Inks(u32),

@@ -11,7 +11,7 @@ use record::{
 };
 
 // What a number stands for, as far as the next space within.
-#[derive(Drop)]
+#[derive(Clone, Copy, Drop)]
 pub enum Level {
     // A device space, CalGray, CalRGB or Lab, or a Separation named All: its closing step, and a Lab's ranges. A number that is no space's has the
     // closing step of nothing.
