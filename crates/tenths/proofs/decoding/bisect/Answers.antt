@@ -45,4 +45,4 @@ loop-hi-preserved c =
     down _ l.invariant (omega arith) (omega arith) (sym t ∙ c.if-settles.false)
 
 pub returns : goal.returns
-returns c = stopped c.loop-hi.invariant c.if-hi-lo-le1.true
+returns c = stopped c.loop-hi.invariant (omega arith)
