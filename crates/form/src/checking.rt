@@ -82,8 +82,9 @@ fn formed_in(words: &[i32], taken: usize, count: usize, t: &mut [u64]) -> bool
     false
 }
 
-// The same of the first words, as many as a form may have. It calls itself where there are more, and so stays a function of its own when it is compiled: its table takes memory only
+// The same of the first words, as many as a form may have. It calls itself where there are more, and by its hint stays a function of its own when it is compiled: its table takes memory only
 // where it is called. `formed_on_page` does the same of the words that a program of a page may have.
+#[inline(never)]
 fn formed_long(words: &[i32], taken: usize, count: usize) -> bool
     requires { (taken ≤ places) × (count ≤ widest) }
     ensures { result ≡ formed (take most_words words.now) taken count }
@@ -95,6 +96,7 @@ fn formed_long(words: &[i32], taken: usize, count: usize) -> bool
     formed_in(words, taken, count, &mut t)
 }
 
+#[inline(never)]
 fn formed_on_page(words: &[i32], taken: usize, count: usize) -> bool
     requires { (taken ≤ places) × (count ≤ widest) }
     ensures { result ≡ formed (take most_flat words.now) taken count }

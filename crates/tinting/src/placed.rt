@@ -6,9 +6,10 @@ ghost use Rattle.form.specs.Steps.{part_of, tints_outside, form_values};
 use crate::stepping::{is_moving, run};
 use fixed::VALUES;
 
-// The n words from `at` on, as many as there are, on the values, of which they take the first t. The function calls itself, and so stays a function of its own when it is compiled: the
+// The n words from `at` on, as many as there are, on the values, of which they take the first t. By its hint the function stays one of its own when it is compiled: the
 // stack takes memory only while a program is run, and none in a recipe without one. The values are lent and not a whole colour, since what goes to and from this call has its place in the
 // frame of every run of a recipe.
+#[inline(never)]
 fn run_at(words: &[i32], at: usize, n: usize, t: usize, count: usize, values: &mut [i32; VALUES])
     requires { t ≤ places }
     ensures { values.new ≡ form_values t count (part_of words.now at n) values.old }
