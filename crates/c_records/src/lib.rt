@@ -1,5 +1,6 @@
 // How a record is laid out for C: 20 numbers and 504 bytes, read both ways. Which 20 numbers make a record is decided here.
 #![tactic(auto)]
+
 mod numbers;
 mod records;
 

@@ -1,6 +1,7 @@
 // What a block asks of the other blocks of its page: the space that it refers to, and the run of palette or program blocks after it (FORMAT.md, References,
 // Palettes, Program runs).
 #![tactic(auto)]
+
 mod references;
 mod runs;
 
