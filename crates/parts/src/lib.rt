@@ -1,5 +1,6 @@
 // The parts of a recipe, stored in its words: what a level of a space adds, and the limits and the closing step that it ends with (FORMAT.md, Recipes).
 #![tactic(auto)]
+
 mod closings;
 mod parts;
 mod stores;
