@@ -1,5 +1,6 @@
 // The names of inks: which block of a page has a name, the lowest that has it, and the name as a part of that page; and what asking for an ink comes to.
 #![tactic(auto)]
+
 mod names;
 mod search;
 

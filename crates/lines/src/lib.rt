@@ -1,5 +1,6 @@
 // The listing of a page as text: its count of blocks, and a line for each space; or one line where the page is refused. It is put into bytes that are lent.
 #![tactic(auto)]
+
 mod listing;
 
 pub use listing::list;

@@ -1,0 +1,12 @@
+-- `put_refused`: the parts of the line, one after the other.
+use mathlib.Core.List.{append_assoc}
+use native.Mathlib.Omega.{arith}
+use Rattle.lines.specs.Listing.{refused_text, longest}
+use Rattle.digits.proofs.Putting.{then, same, wider}
+use Rattle.lines.proofs.listing.put_refused.Goals as goal
+
+pub returns : goal.returns
+unfolding refused_text
+returns c =
+    wider longest (omega arith)
+    (same (simp append_assoc) (then (then (then c.put_text-a.ensures c.put_number-b.ensures) c.put_text-c.ensures) c.put_column.ensures))
