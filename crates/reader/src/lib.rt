@@ -1,5 +1,6 @@
 // The reader of a designer's text: tokens to records.
 #![tactic(auto)]
+
 pub mod dictionary;
 pub mod frames;
 pub mod heads;

@@ -1,7 +1,7 @@
 // What is read so far of a designer's text, as far as it is passed by value.
 
 // What the next token may be.
-#[derive(Drop)]
+#[derive(Clone, Copy)]
 pub enum Want {
     Top,
     Family,
@@ -17,7 +17,7 @@ pub enum Want {
 }
 
 // The entry of a dictionary that is read: its key, how many of its numbers were read, which keys were met, and the exponent.
-#[derive(Drop)]
+#[derive(Clone, Copy)]
 pub struct Entry {
     pub key: u32,
     pub index: u32,
@@ -26,7 +26,7 @@ pub struct Entry {
 }
 
 // The inner space: its count of components and its reference; and the hival of the Indexed space around it.
-#[derive(Drop)]
+#[derive(Clone, Copy)]
 pub struct Inner {
     pub count: u8,
     pub code: u16,
@@ -34,7 +34,7 @@ pub struct Inner {
 }
 
 // Between two tokens: what may stand next, the kind of the space, how many blocks are made, and the ring of open spaces.
-#[derive(Drop)]
+#[derive(Clone, Copy)]
 pub struct Head {
     pub want: Want,
     pub kind: u8,
@@ -46,7 +46,7 @@ pub struct Head {
 }
 
 // What a token comes to: what is read by then, and the number that it is refused with, 0 where it is not.
-#[derive(Drop)]
+#[derive(Clone, Copy)]
 pub struct Took {
     pub head: Head,
     pub refusal: u32,
