@@ -4,6 +4,7 @@
 //     blocks 1
 //     0 CalGray 1 9
 #![tactic(auto)]
+
 use std::io::Result;
 
 // A byte more than the longest page, so that a longer input is refused and not cut.
