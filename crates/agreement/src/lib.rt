@@ -1,5 +1,6 @@
 // FORMAT.md, The recipe and the page: a recipe, once written, replies to every colour what the page replies.
 #![tactic(auto)]
+
 mod compare;
 
 use cie::Answered;
