@@ -1,5 +1,6 @@
 // The end of a designer's text: what it replies, and judging the blocks that the text has made.
 #![tactic(auto)]
+
 mod judging;
 mod types;
 

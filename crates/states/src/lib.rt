@@ -1,5 +1,6 @@
 // What is kept between two calls of the reader of texts: a state, and the words that it is lent in.
 #![tactic(auto)]
+
 mod types;
 mod words;
 

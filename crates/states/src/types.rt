@@ -3,7 +3,7 @@ use lexer::Lexer;
 use reader::Head;
 
 // Where the reading stands; the number that the text is refused with and its byte, where that number is not 0.
-#[derive(Drop)]
+#[derive(Clone, Copy)]
 pub struct State {
     pub lexer: Lexer,
     pub head: Head,
@@ -12,7 +12,7 @@ pub struct State {
 }
 
 // A mode of the lexer in three numbers: which it is, the nesting of parentheses, and a digit or a byte so far.
-#[derive(Drop)]
+#[derive(Clone, Copy)]
 pub struct Packed {
     pub tag: u32,
     pub depth: u32,
