@@ -1,5 +1,6 @@
 // The reader of a designer's text, over memory that the caller lends: `begin`, the text in parts of any length, `end`.
 #![tactic(auto)]
+
 mod ending;
 mod lent;
 mod reading;
