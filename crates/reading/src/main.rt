@@ -3,6 +3,7 @@
 //
 //     refused 12 at 40
 #![tactic(auto)]
+
 use judging::Reply;
 use std::io::{Read, Result};
 
