@@ -24,7 +24,7 @@ use Rattle.keys.specs.Names.{family_named}
 use Rattle.reader.specs.Spaces.{Parser, Frame, Made, with, around, name_of, body_of, record_of, run_of, run_blocks, made_with}
 use Rattle.reader.specs.Tokens.{took, took_by, sort_of, wanted_by, closed, count_of, resumes, resumed, outside, took_hival, with_hival, took_lookup}
 use Rattle.spelling.specs.Names.{the_indexed}
-use Rattle.spelling.specs.Spaces.{Space, indexed, components_of, blocks_of, code_of, records_of, record_with, palettes, entry, PaletteFits}
+use Rattle.spelling.specs.Spaces.{Space, indexed, components_of, blocks_of, code_of, records_of, record_with, palettes, PaletteFits}
 use Rattle.spelling.proofs.Onward.{stands, Onward, taking, then_at, then, told}
 use Rattle.spelling.proofs.Arrays.{Level, within, want_at, kind_at, frames_of, made, done, SpaceRead, read-so, open-read, family-read, shut-read}
 use Rattle.spelling.proofs.Nested.{page-more, run_is}

@@ -20,7 +20,7 @@ use Rattle.lexer.specs.Scans.{Progress, going, bound, after, handed, fed, finish
 use Rattle.lexer.specs.Scans as scans
 use Rattle.lexer.specs.declared.types.Mode.TheVariants.{Gap}
 use Rattle.objects.specs.Objects.{each}
-use Rattle.objects.proofs.Steps.{scan, word}
+use Rattle.objects.proofs.Steps.{scan}
 use Rattle.objects.proofs.Written.{objects-read, objects-seen}
 use Rattle.reader.specs.declared.types.Want.TheVariants.{Top}
 use Rattle.reader.specs.Spaces.{Parser, with}

@@ -17,7 +17,7 @@ use Rattle.lexer.specs.Scans.{Word, Progress, going, takes}
 use Rattle.lexer.specs.declared.types.Mode.TheVariants.{Gap}
 use Rattle.lexical.specs.declared.types.Number.{Number}
 use Rattle.lexer.specs.declared.types.Token.TheVariants.{NameToken}
-use Rattle.objects.specs.Objects.{Object, name, number, closes, each, writable}
+use Rattle.objects.specs.Objects.{Object, name, closes, each, writable}
 use Rattle.objects.proofs.Steps.{scan}
 use Rattle.objects.proofs.Written.{read_scan, AllWritable, no_more, ◌&◌}
 use Rattle.reader.specs.declared.types.Want.TheVariants.{Top, Space as Inside}
