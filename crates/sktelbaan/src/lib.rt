@@ -1,6 +1,7 @@
 // The C interface: each operation under a plain name, for C and Rust to link. How a record is laid out stands in `c_records`, how a reply is in `c_layout`, and what
 // a reply of 64 bits is in `sktelbaan_runner`; the rest is what the crates below reply.
 #![tactic(auto)]
+
 ghost use Rattle.std.specs.Prelude.{◌≡◌, length};
 ghost use Rattle.colour.specs.Evaluating.{evaluated};
 ghost use Rattle.ink_names.specs.Search.{found_ink};

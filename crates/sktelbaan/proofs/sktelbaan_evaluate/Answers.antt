@@ -2,7 +2,6 @@
 use mathlib.Core.Path.{ap, ◌∙◌}
 use Rattle.cie.specs.Answers.{Reply}
 use Rattle.sktelbaan_runner.specs.Replies.{reply_of, floats_of}
-use borrow.Author.Rules.{rules}
 use Rattle.sktelbaan.proofs.sktelbaan_evaluate.Goals as goal
 
 pub returns : goal.returns

@@ -1,7 +1,6 @@
 -- What validating comes to, as C has it.
 use mathlib.Core.Path.{ap, ◌∙◌}
 use Rattle.c_layout.specs.Replies.{verdict_of}
-use borrow.Author.Rules.{rules}
 use Rattle.sktelbaan.proofs.sktelbaan_validate.Goals as goal
 
 pub returns : goal.returns

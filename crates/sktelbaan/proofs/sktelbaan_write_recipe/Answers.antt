@@ -1,7 +1,6 @@
 -- What writing a recipe replies, as C has it; the words are those that it leaves.
 use mathlib.Core.Path.{ap, ◌∙◌}
 use Rattle.c_layout.specs.Replies.{wrote_of}
-use borrow.Author.Rules.{rules}
 use Rattle.sktelbaan.proofs.sktelbaan_write_recipe.Goals as goal
 
 pub returns : goal.returns
