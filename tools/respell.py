@@ -1,7 +1,7 @@
 #!/usr/bin/env python3
 """Brings the definitions and lemmas of this repository to the spelling of today's Rattle: snake case.
 
-usage: python3 tools/respell.py [FOLDER]     after /opt/rattle/port/port.py, once, at the top of the repository
+usage: python3 tools/respell.py [FOLDER]     after the kit's port.py, once, at the top of the repository
 
 A name of a definition, a record's field, a constructor or a variable in camel case (`twoAt`) becomes snake case (`two_at`) in
 specs/, proofs/, clauses, comments and must-fail edits. Where a lemma or a variable has that name already, since port.py took a
