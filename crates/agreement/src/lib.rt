@@ -8,7 +8,7 @@ pub use compare::compare_replies;
 use recipe::Written;
 
 // What writing a recipe, running it and evaluating on the page reply.
-#[derive(Drop)]
+#[derive(Clone, Copy, Drop)]
 pub struct Replies {
     pub written: Written,
     pub ran: Answered,

@@ -2,14 +2,14 @@
 use record::Record;
 
 // Done, or the number of the refusal.
-#[derive(Drop)]
+#[derive(Clone, Copy, Drop)]
 pub enum Reply {
     Done,
     Refused(u32),
 }
 
 // A reply, and the record that was read; on a refusal that of a free block 0.
-#[derive(Drop)]
+#[derive(Clone, Copy, Drop)]
 pub struct ReadReply {
     pub reply: Reply,
     pub found: Record,

@@ -71,7 +71,8 @@ pub fn is_filled_run(page: &[u8], n: u16, blocks: u32) -> bool
 }
 
 // What the program in the blocks after block n, so many and four at most, is refused with, where it is to take `taken` values and leave `count` numbers: 16, then 17; 0 where it is accepted.
-// It calls itself for the four, and so stays a function of its own when it is compiled: what judging needs takes memory only where there is a program.
+// It calls itself for the four, and by its hint stays a function of its own when it is compiled: what judging needs takes memory only where there is a program.
+#[inline(never)]
 pub fn judge_run(page: &[u8], n: u16, blocks: u32, taken: usize, count: usize) -> u32
     ensures { result ≡ refusal_of taken count (run_text page.now n blocks) }
 {

@@ -81,7 +81,7 @@ pub fn tint_value(c0: i32, c1: i32, q: u32) -> i32
 }
 
 // Where an index lies among the rows 0..hival.
-#[derive(Drop)]
+#[derive(Clone, Copy, Drop)]
 pub struct Index {
     // The row that it picks: the nearest of them.
     pub row: u32,

@@ -5,7 +5,7 @@ ghost use Rattle.fixed.specs.Values.{places, value, small_of, started};
 use crate::VALUES;
 
 // A colour on its way from its components to an answer.
-#[derive(Drop)]
+#[derive(Clone, Copy, Drop)]
 pub struct Colour {
     // Its values; at the start the components, and 0 where none is given.
     pub values: [i32; VALUES],

@@ -8,7 +8,7 @@ pub use names::{name_part, name_start};
 pub use search::{Place, lowest};
 
 // The page that a reply is about.
-#[derive(Drop)]
+#[derive(Clone, Copy, Drop)]
 pub enum Which {
     Job,
     House,
@@ -16,7 +16,7 @@ pub enum Which {
 }
 
 // What asking for an ink comes to: the page and the block that it was found in, or the refusal's number, with the page and the block that it is about.
-#[derive(Drop)]
+#[derive(Clone, Copy, Drop)]
 pub enum Ink {
     Found {
         page: Which,

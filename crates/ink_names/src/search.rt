@@ -7,7 +7,7 @@ ghost use Rattle.ink_names.specs.Search.{lowest as lowest_of};
 use crate::names::is_ink;
 
 // Where an ink is on a page: the lowest block that has its name, or none.
-#[derive(Drop)]
+#[derive(Clone, Copy, Drop)]
 pub enum Place {
     At(u32),
     Nowhere,

@@ -1,7 +1,7 @@
 // What the functions of this crate hand to one another.
 
 // What the compiler keeps: how far it is, the words' count, the pairs that wait and where their jumps stand, how many pairs are open, the numbers held.
-#[derive(Drop)]
+#[derive(Clone, Copy, Drop)]
 pub struct Kept {
     pub s: usize,
     pub n: usize,
@@ -15,7 +15,7 @@ pub struct Kept {
 }
 
 // The count of words, or refusal 16.
-#[derive(Drop)]
+#[derive(Clone, Copy, Drop)]
 pub enum Built {
     Flat(usize),
     Refused,

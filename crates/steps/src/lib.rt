@@ -9,7 +9,7 @@ pub use parse::{rgb_words, step_of};
 pub use words::is_count;
 
 // A step of a recipe, with its numbers; entries, C0s, C1s and a program's words are read off its words.
-#[derive(Drop)]
+#[derive(Clone, Copy, Drop)]
 pub enum Step {
     // Limit value k to lo..hi.
     Limit(u32, i32, i32),
@@ -24,7 +24,7 @@ pub enum Step {
 }
 
 // What is read off the front of a list of words: a step and how many words it takes, or none.
-#[derive(Drop)]
+#[derive(Clone, Copy, Drop)]
 pub enum Read {
     At(Step, usize),
     Nothing,

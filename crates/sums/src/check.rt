@@ -7,7 +7,7 @@ ghost use Rattle.sums.specs.Columns.{DownAll, Across};
 use octets::{byte_at, two_at};
 
 // The two sums, modulo 65535: `plain` adds the bytes up as they are, `weighed` adds up byte i times 508 - i.
-#[derive(Drop)]
+#[derive(Clone, Copy, Drop)]
 pub struct Sums {
     pub plain: u32,
     pub weighed: u32,

@@ -1,7 +1,7 @@
 // What looking for a token gives.
 
 // A token by its code, with its value where it is a number, and where to read on; or that there is none.
-#[derive(Drop)]
+#[derive(Clone, Copy, Drop)]
 pub struct Next {
     pub found: bool,
     pub code: usize,

@@ -8,14 +8,14 @@ use octets::to_signed;
 use std::io::{Read, Result};
 
 // A number, and the place after it.
-#[derive(Drop)]
+#[derive(Clone, Copy, Drop)]
 pub struct Number {
     pub value: i32,
     pub next: usize,
 }
 
 // The numbers of a case, 0 past the last, and the place after them.
-#[derive(Drop)]
+#[derive(Clone, Copy, Drop)]
 pub struct Numbers {
     pub values: [i32; 24],
     pub next: usize,
@@ -123,7 +123,7 @@ fn is_hex(c: u8) -> bool {
 }
 
 // A byte of the text, and how many characters it takes: 0 where there is none.
-#[derive(Drop)]
+#[derive(Clone, Copy, Drop)]
 pub struct Byte {
     pub value: u8,
     pub size: usize,

@@ -4,7 +4,7 @@ use mathlib.Core.List.{[], ◌∷◌}
 use Rattle.fixed.proofs.Signs.{signed_back}
 use Rattle.cie.specs.declared.Xyz.{Xyz}
 use Rattle.cie.specs.Closings.{closed_by, in_three, cal_gray_of, cal_rgb_of, cal_lab_of}
-use Rattle.cie.proofs.Closes.{bare-is}
+use Rattle.cie.proofs.Closes.{no_numbers-is}
 use Rattle.cie.proofs.closings.close.Goals as goal
 
 pub returns-in-CalGray : goal.returns-in-CalGray
@@ -31,5 +31,5 @@ returns-in-Lab c =
 pub returns-in_default : goal.returns-in_default
 returns-in_default c =
     let f = c.ranges in
-    let same = bare-is _ c.in_default.not-CalGray c.in_default.not-CalRgb c.in_default.not-Lab in
+    let same = no_numbers-is _ c.in_default.not-CalGray c.in_default.not-CalRgb c.in_default.not-Lab in
     λ m. c.close_bare.ensures m ∙ (λ i. closed_by (same i) (signed_back f.a i ∷ signed_back f.b i ∷ signed_back f.c i ∷ signed_back f.d i ∷ []) m)

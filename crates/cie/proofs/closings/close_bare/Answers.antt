@@ -6,7 +6,7 @@ use Rattle.fixed.proofs.Signs.{signed_back}
 use Rattle.cie.specs.Answers.{answer, in_gray, in_rgb, in_cmyk, every_ink}
 use Rattle.cie.specs.Bare.{bare_of}
 use Rattle.cie.specs.Closings.{closed_by}
-use Rattle.cie.proofs.Closes.{others-refused}
+use Rattle.cie.proofs.Closes.{numbers-refused}
 use Rattle.cie.proofs.closings.close_bare.Goals as goal
 
 pub returns-in-Gray : goal.returns-in-Gray
@@ -42,4 +42,4 @@ returns-in-EveryInk c =
 pub returns-in_default : goal.returns-in_default
 returns-in_default c =
     let d = c.in_default in
-    λ m. others-refused _ _ m d.not-Gray d.not-Rgb d.not-Cmyk d.not-NoMark d.not-EveryInk
+    λ m. numbers-refused _ _ m d.not-Gray d.not-Rgb d.not-Cmyk d.not-NoMark d.not-EveryInk

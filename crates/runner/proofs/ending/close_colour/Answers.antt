@@ -4,7 +4,7 @@ use Rattle.fixed.specs.Values.{value}
 use Rattle.fixed.proofs.Signs.{signed-within}
 use Rattle.cie.specs.declared.Xyz.{Xyz}
 use Rattle.cie.specs.Closings.{closed_by, in_three, cal_gray_of, cal_rgb_of, cal_lab_of}
-use Rattle.cie.proofs.Closes.{bare-closes}
+use Rattle.cie.proofs.Closes.{no_numbers-closes}
 use Rattle.runner.proofs.ending.close_colour.Goals as goal
 
 pub returns-in-CalGray : goal.returns-in-CalGray
@@ -31,4 +31,4 @@ returns-in-Lab c =
 pub returns-in_default : goal.returns-in_default
 returns-in_default c =
     c.close_bare-answer.ensures _
-    ∙ bare-closes _ _ _ c.in_default.not-CalGray c.in_default.not-CalRgb c.in_default.not-Lab (signed-within _ c.a-1.given) (signed-within _ c.close_bare-arg-1.given) (signed-within _ c.close_bare-arg-in_default-1.given) (signed-within _ c.close_bare-arg-in_default-2-1.given)
+    ∙ no_numbers-closes _ _ _ c.in_default.not-CalGray c.in_default.not-CalRgb c.in_default.not-Lab (signed-within _ c.a-1.given) (signed-within _ c.close_bare-arg-1.given) (signed-within _ c.close_bare-arg-in_default-1.given) (signed-within _ c.close_bare-arg-in_default-2-1.given)
