@@ -27,7 +27,7 @@ put_rows-requires c =
     let r = row_fits _ _ c.args.hival c.count-m.result (space_in c.args.page.now c.args.s) (c.count-m.ensures.is _) _ c.args.words.now c.requires in
     let e : length c.put3.new.words ≡ length c.args.words.now = c.put3.auto.words in
     let some : 1 ≤ c.count-m.result = omega (arith, c.if-m-eq0.false) in
-    (few-entries c.count-m.result c.args.hival c.count-m.ensures.small (search rules), omega arith, some, c.count-m.ensures.small)
+    (omega (arith, few-entries c.count-m.result c.args.hival c.count-m.ensures.small (search rules)), omega arith, some, c.count-m.ensures.small)
 
 pub overflow_cast-result : goal.overflow_cast-result
 overflow_cast-result c =
