@@ -14,33 +14,28 @@ pub fn limit_step(k: u32, lo: i32, hi: i32, c: Colour) -> Colour
     ensures { result ≡ limit_step k lo hi c }
 {
     let mut moved = c.moved;
-    let mut u = c.values;
-    let mut i: u32 = 0;
-    while i < VALUES as u32 {
-        if i == k {
-            let v = u[i as usize];
-            let x = limit(v, lo, hi);
-            moved = moved | is_outside(v, lo, hi);
-            u[i as usize] = x;
+    let mut values = c.values;
+    for i in 0..VALUES {
+        if i == k as usize {
+            let v = values[i];
+            values[i] = limit(v, lo, hi);
+            moved |= is_outside(v, lo, hi);
         }
-        i += 1;
     }
-    Colour { values: u, moved }
+    Colour { values, moved }
 }
 
 // The first m values are the m words from `at` on.
+#[tactic(auto, unfolding(fixed::specs::Values::filled))]
 fn fill_row(l: &[i32], at: usize, m: usize, v: [i32; VALUES]) -> [i32; VALUES]
     requires { (at ≤ places * 256) × (m ≤ places) }
     ensures { result ≡ filled (λ k. value l.now (at + k)) m v }
 {
-    let mut u = v;
-    let mut k: usize = 0;
-    while k < m {
-        let x = value_at(l, at + k);
-        u[k] = x;
-        k += 1;
+    let mut values = v;
+    for k in 0..m {
+        values[k] = value_at(l, at + k);
     }
-    u
+    values
 }
 
 // The row that value 0 picks of rows 0..h, m entries each.
@@ -48,30 +43,25 @@ pub fn row_step(l: &[i32], m: u32, h: u32, c: Colour) -> Colour
     requires { (m ≤ places) × (h ≤ 255) }
     ensures { result ≡ row_step m h (drop 3 l.now) c }
 {
-    let moved = c.moved;
-    let v = c.values;
-    let x = v[0];
-    let index = index_of(x, h);
-    let u = fill_row(l, 3 + (index.row as usize) * (m as usize), m as usize, v);
+    let index = index_of(c.values[0], h);
+    let at = 3 + index.row as usize * m as usize;
     Colour {
-        values: u,
-        moved: moved | index.outside,
+        values: fill_row(l, at, m as usize, c.values),
+        moved: c.moved | index.outside,
     }
 }
 
 // The first m values are q millionths of the way from the m C0s to the m C1s.
+#[tactic(auto, unfolding(fixed::specs::Values::filled))]
 fn fill_tint(l: &[i32], m: usize, q: u32, v: [i32; VALUES]) -> [i32; VALUES]
     requires { (m ≤ places) × (q ≤ 1000000) }
     ensures { result ≡ filled (λ k. tint_value (value l.now (3 + k)) (value l.now (3 + m + k)) q) m v }
 {
-    let mut u = v;
-    let mut k: usize = 0;
-    while k < m {
-        let x = tint_value(value_at(l, 3 + k), value_at(l, 3 + m + k), q);
-        u[k] = x;
-        k += 1;
+    let mut values = v;
+    for k in 0..m {
+        values[k] = tint_value(value_at(l, 3 + k), value_at(l, 3 + m + k), q);
     }
-    u
+    values
 }
 
 // The tint, value 0 limited to 0..1, to the exponent e.
@@ -79,14 +69,11 @@ pub fn tint_step(l: &[i32], e: u32, m: u32, c: Colour) -> Colour
     requires { m ≤ places }
     ensures { result ≡ tint_step e m (drop 3 l.now) (drop (3 + m) l.now) c }
 {
-    let moved = c.moved;
-    let v = c.values;
-    let x = v[0];
-    let q = tint_power(unit_part(x), e);
-    let u = fill_tint(l, m as usize, q, v);
+    let tint = c.values[0];
+    let q = tint_power(unit_part(tint), e);
     Colour {
-        values: u,
-        moved: moved | is_outside(x, 0, 1000000),
+        values: fill_tint(l, m as usize, q, c.values),
+        moved: c.moved | is_outside(tint, 0, 1000000),
     }
 }
 
@@ -95,11 +82,17 @@ pub fn program_step(l: &[i32], t: u32, m: u32, at: u32, n: u32, c: Colour) -> Co
     requires { t ≤ places }
     ensures { result ≡ form_step t m (part_of l.now at n) c }
 {
-    let moved = c.moved;
-    let mut v = c.values;
-    let out = tinting::step(l, at as usize, n as usize, t as usize, m as usize, &mut v);
+    let mut values = c.values;
+    let out = tinting::step(
+        l,
+        at as usize,
+        n as usize,
+        t as usize,
+        m as usize,
+        &mut values,
+    );
     Colour {
-        values: v,
-        moved: moved | out,
+        values,
+        moved: c.moved | out,
     }
 }

@@ -7,9 +7,9 @@ ghost use Rattle.recipe.specs.SpaceWrites.{meaning as wrote};
 ghost use Rattle.recipe.specs.PageWrites.{write_reply, write_words};
 
 use crate::Replies;
-use cie::{Answer, Answered};
+use cie::Answered;
 use colour::evaluate;
-use recipe::{Written, write};
+use recipe::write;
 use runner::run;
 
 // Writes the recipe of the space at a number, runs just its words on the components, and evaluates them on the page. Whenever the recipe is written, which is
@@ -27,22 +27,13 @@ pub fn compare_replies(
 {
     let evaluated = evaluate(page, reference, components);
     let written = write(page, reference, words);
-    match written {
-        Written::Words(n) => {
-            let ran = run(&words[..n as usize], components);
-            Replies {
-                written,
-                ran,
-                evaluated,
-            }
-        }
-        Written::Refused { number, block } => Replies {
-            written,
-            ran: Answered {
-                answer: Answer::Refused { number, block },
-                moved: false,
-            },
-            evaluated,
-        },
+    let ran = match written {
+        Ok(n) => run(&words[..n as usize], components),
+        Err(refused) => Answered::from(refused),
+    };
+    Replies {
+        written,
+        ran,
+        evaluated,
     }
 }

@@ -5,12 +5,12 @@ mod compare;
 
 use cie::Answered;
 pub use compare::compare_replies;
-use recipe::Written;
+use fixed::Refused;
 
 // What writing a recipe, running it and evaluating on the page reply.
 #[derive(Clone, Copy, Drop)]
 pub struct Replies {
-    pub written: Written,
+    pub written: Result<u32, Refused>,
     pub ran: Answered,
     pub evaluated: Answered,
 }

@@ -1,24 +1,24 @@
 -- FORMAT.md, Refusals and Operations: writing one block, and reading one block by itself. Refusals in their order; a refusal alters no byte.
-use Rattle.std.specs.Prelude.{◌≡◌, List, cond, ℕ, zero, suc, length, replicate, eqb}
+use Rattle.std.specs.Prelude.{◌≡◌, List, cond, ℕ, zero, suc, length, replicate, eqb, Result, Ok, Err}
 use Rattle.fixed.specs.Loops.{unless}
+use Rattle.fixed.specs.Refusals.{number_of}
+use Rattle.fixed.specs.declared.refusals.Refusal.{Refusal}
 use Rattle.record.specs.Layout.{block_of, checked}
 use Rattle.record.specs.Reading.{record_at}
 use Rattle.record.specs.Rules.{fault_of, fault_at}
 use Rattle.record.specs.Fits.{Fits}
 use Rattle.record.specs.declared.types.Record.{Record}
 use Rattle.record.specs.declared.types.Body.TheVariants.{Free}
-use Rattle.block.specs.declared.types.Reply.{Reply}
-use Rattle.block.specs.declared.types.Reply.TheVariants.{Done, Refused}
 
 -- what writing or reading comes to: done, or refused with a number
 pub data Outcome : Type 0 where
   done : Outcome
   refused : ℕ → Outcome
 
--- what each case of the enum `Reply` says
-abbrev pub meaning : Reply → Outcome
-meaning Done = done
-meaning (Refused n) = refused n
+-- what a `Result` says
+abbrev pub meaning : {A : Type 0} → Result A Refusal → Outcome
+meaning (Ok _) = done
+meaning (Err k) = refused (number_of k)
 
 -- what the number of a refusal comes to, 0 being none
 abbrev pub outcome_of : ℕ → Outcome
@@ -40,6 +40,11 @@ read_number b = unless (eqb (length b) 512) 10 (unless (checked b) 2 (fault_at b
 -- the record that comes with a refusal: a free block's, numbered 0
 abbrev pub nothing : Record
 nothing = record { own = 0; body = Free; bytes = replicate 504 0 }
+
+-- the record that a `Result` has
+abbrev pub found_in : Result Record Refusal → Record
+found_in (Ok r) = r
+found_in (Err _) = nothing
 
 -- the record that comes with the number of a refusal: r where that is none
 unfoldable pub found_of : ℕ → Record → Record

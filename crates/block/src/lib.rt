@@ -3,10 +3,8 @@
 
 mod reading;
 mod trips;
-mod types;
 mod writing;
 
 pub use reading::read;
 pub use trips::{read_and_written, written_and_read};
-pub use types::{ReadReply, Reply};
 pub use writing::{put_record, write};

@@ -4,4 +4,4 @@
 
 mod answers;
 
-pub use answers::{count, done, on_page, verdict};
+pub use answers::{count, done, no_ink, on_page, verdict};

@@ -14,6 +14,7 @@ fn triple(x: i32, y: i32, z: i32) -> Triple
 }
 
 // Own number and kind, and then six times three numbers.
+// Kept: the kind is a number, as the C interface has it.
 fn laid(
     own: u16,
     kind: i32,
@@ -35,33 +36,22 @@ fn laid(
 fn gray_numbers(own: u16, g: CalGray) -> [i32; 20]
     ensures { result ≡ headed own (Body.CalGray g) }
 {
-    let white = g.white;
-    let black = g.black;
     let gamma = triple(g.gamma, 0, 0);
-    laid(own, 1, white, black, gamma, NONE, NONE, NONE)
+    laid(own, 1, g.white, g.black, gamma, NONE, NONE, NONE)
 }
 
 fn rgb_numbers(own: u16, g: CalRgb) -> [i32; 20]
     ensures { result ≡ headed own (Body.CalRgb g) }
 {
-    let white = g.white;
-    let black = g.black;
-    let gammas = g.gammas;
-    let a = g.a;
-    let b = g.b;
-    let c = g.c;
-    laid(own, 2, white, black, gammas, a, b, c)
+    laid(own, 2, g.white, g.black, g.gammas, g.a, g.b, g.c)
 }
 
 fn lab_numbers(own: u16, g: Lab) -> [i32; 20]
     ensures { result ≡ headed own (Body.Lab g) }
 {
-    let white = g.white;
-    let black = g.black;
-    let q = g.range;
-    let first = triple(q.amin, q.amax, q.bmin);
-    let last = triple(q.bmax, 0, 0);
-    laid(own, 3, white, black, first, last, NONE, NONE)
+    let first = triple(g.range.amin, g.range.amax, g.range.bmin);
+    let last = triple(g.range.bmax, 0, 0);
+    laid(own, 3, g.white, g.black, first, last, NONE, NONE)
 }
 
 fn indexed_numbers(own: u16, base: u16, hival: u16) -> [i32; 20]
@@ -81,12 +71,10 @@ fn device_n_numbers(own: u16, alternate: u16, count: u8) -> [i32; 20]
 fn ink_numbers(own: u16, p: Separation) -> [i32; 20]
     ensures { result ≡ headed own (Body.Separation p) }
 {
-    let c = p.c0;
-    let d = p.c1;
     let first = triple(p.alternate as i32, p.exponent as i32, p.name_len as i32);
-    let second = triple(c.a, c.b, c.c);
-    let third = triple(c.d, d.a, d.b);
-    let last = triple(d.c, d.d, 0);
+    let second = triple(p.c0.a, p.c0.b, p.c0.c);
+    let third = triple(p.c0.d, p.c1.a, p.c1.b);
+    let last = triple(p.c1.c, p.c1.d, 0);
     laid(own, 5, first, second, third, last, NONE, NONE)
 }
 

@@ -1,19 +1,18 @@
 // Cases of inks by name.
-use ink_names::{Ink, Which, name_start};
+use ink_names::{Side, name_start};
 use inks::{find, name_in};
 use octets::of_signed;
 use std::io::Result;
 use text::{say, say_dotted, say_size};
 
-fn say_page(rt: &impl Print, page: Which) -> Result<()> {
+fn say_page(rt: &impl Print, page: Side) -> Result<()> {
     match page {
-        Which::Job => say(rt, b"job"),
-        Which::House => say(rt, b"house"),
-        Which::Neither => say(rt, b"neither"),
+        Side::Job => say(rt, b"job"),
+        Side::House => say(rt, b"house"),
     }
 }
 
-fn say_found(rt: &impl Print, page: Which, block: u32, name: &[u8]) -> Result<()> {
+fn say_found(rt: &impl Print, page: Side, block: u32, name: &[u8]) -> Result<()> {
     say(rt, b"found ")?;
     say_page(rt, page)?;
     say(rt, b" block ")?;
@@ -25,24 +24,10 @@ fn say_found(rt: &impl Print, page: Which, block: u32, name: &[u8]) -> Result<()
     say_dotted(rt, name)
 }
 
-fn say_refused(rt: &impl Print, number: u32, page: Which, block: u32) -> Result<()> {
-    say(rt, b"refused ")?;
-    say_size(rt, number)?;
-    say(rt, b" ")?;
-    say_page(rt, page)?;
-    say(rt, b" block ")?;
-    say_size(rt, block)
-}
-
 fn ask<'a>(rt: &impl Print, job: &'a [u8], house: &'a [u8], name: &[u8]) -> Result<()> {
-    let reply = find(job, house, name);
-    match reply {
-        Ink::Found { page, block } => say_found(rt, page, block, name_in(job, house, name)),
-        Ink::Refused {
-            number,
-            page,
-            block,
-        } => say_refused(rt, number, page, block),
+    match find(job, house, name) {
+        Ok(found) => say_found(rt, found.page, found.block, name_in(job, house, name)),
+        Err(error) => print!(rt; "{error}"),
     }
 }
 

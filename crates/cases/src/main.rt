@@ -16,20 +16,18 @@ use std::io::Result;
 const LINES: usize = 100000;
 
 // The most bytes of a line, and of a case: those of two pages of the most blocks.
-const BYTES: usize = 2 * 512 * (fixed::BLOCKS as usize);
+const BYTES: usize = 2 * 512 * fixed::BLOCKS as usize;
 
 fn main(rt: HostRuntime) -> Result<()> {
     let mut read = [0u8; BYTES];
     let mut room = [0u8; BYTES];
     let mut input = rt.stdin();
-    let mut k: usize = 0;
-    while k < LINES {
+    for _ in 0..LINES {
         let n = text::line_in(&mut input, &mut read)?;
         if n == 0 {
-            return Ok(());
+            break;
         }
         run::line(&rt, &read[..n], &mut room)?;
-        k += 1;
     }
     Ok(())
 }

@@ -4,40 +4,31 @@ use colour::evaluate;
 use designer_cases::text_case;
 use lines::{LONGEST, list};
 use octets::{number_at, of_signed};
-use page::{Verdict, validate};
-use recipe::{Written, write};
+use page::validate;
+use recipe::write;
 use runner::run;
 use std::io::Result;
-use text::{say, say_answer, say_next, say_refusal, say_size};
+use text::{say, say_answer, say_next, say_size};
 
 // Room for the words of a case: those of the longest recipe, and a few more, for one that is too long.
 const WORDS: usize = fixed::LONGEST + 16;
 
 fn validate_case(rt: &impl Print, page: &[u8]) -> Result<()> {
-    let v = validate(page);
-    match v {
-        Verdict::Accepted => say(rt, b"accepted"),
-        Verdict::Refused { number, block } => say_refusal(rt, number, block),
+    match validate(page) {
+        Ok(()) => say(rt, b"accepted"),
+        Err(refused) => print!(rt; "{refused}"),
     }
 }
 
 // The first of a list, as many as are asked for and there are.
 fn first(s: &[i32], count: u32) -> &[i32] {
-    let n = count as usize;
-    if n <= s.len() { &s[..n] } else { s }
-}
-
-fn number_or_zero(v: [i32; 24], k: usize) -> i32 {
-    if k < 24 { v[k] } else { 0 }
+    &s[..s.len().min(count as usize)]
 }
 
 fn components_from(v: [i32; 24], from: u32) -> [i32; 20] {
     let mut c = [0i32; 20];
-    let mut i: usize = 0;
-    while i < 20 {
-        let x = number_or_zero(v, (from as usize) + i);
-        c[i] = x;
-        i += 1;
+    for (i, component) in c.iter_mut().enumerate() {
+        *component = v.get(from as usize + i).copied().unwrap_or(0);
     }
     c
 }
@@ -52,33 +43,20 @@ fn evaluate_case(rt: &impl Print, v: [i32; 24], page: &[u8]) -> Result<()> {
 
 // Whether each word from `at` on is 7.
 fn is_kept(s: &[i32], at: usize) -> bool {
-    let mut i = at;
-    while i < s.len() {
-        if s[i] != 7 {
-            return false;
-        }
-        i += 1;
-    }
-    true
+    s.iter().skip(at).all(|x| *x == 7)
 }
 
 fn say_words(rt: &impl Print, s: &[i32], n: usize) -> Result<()> {
-    let mut i: usize = 0;
-    while i < s.len() {
-        if n <= i {
-            return Ok(());
-        }
-        say_next(rt, s[i])?;
-        i += 1;
+    for x in s.iter().take(n) {
+        say_next(rt, *x)?;
     }
     Ok(())
 }
 
 // Writes a recipe into words that hold 7.
 fn write_into(rt: &impl Print, page: &[u8], n: u32, s: &mut [i32]) -> Result<()> {
-    let reply = write(page, n, s);
-    match reply {
-        Written::Words(count) => {
+    match write(page, n, s) {
+        Ok(count) => {
             say(rt, b"words ")?;
             say_size(rt, count)?;
             if is_kept(s, count as usize) {
@@ -86,8 +64,8 @@ fn write_into(rt: &impl Print, page: &[u8], n: u32, s: &mut [i32]) -> Result<()>
             }
             say_words(rt, s, count as usize)
         }
-        Written::Refused { number, block } => {
-            say_refusal(rt, number, block)?;
+        Err(refused) => {
+            print!(rt; "{refused}")?;
             if is_kept(s, 0) {
                 say(rt, b" kept")?;
             }
@@ -109,21 +87,16 @@ fn write_case(rt: &impl Print, v: [i32; 24], page: &[u8]) -> Result<()> {
 }
 
 // The words that bytes are, four to a word.
-fn words_of(s: &[u8], out: &mut [i32]) {
-    let mut i: usize = 0;
-    while i < out.len() {
-        if WORDS <= i {
-            return;
-        }
-        let x = number_at(s, (i / 128) as u32, (4 * (i % 128)) as u32);
-        out[i] = x;
-        i += 1;
+fn words_of(s: &[u8]) -> [i32; WORDS] {
+    let mut words = [0; WORDS];
+    for (i, word) in words.iter_mut().enumerate() {
+        *word = number_at(s, (i / 128) as u32, (4 * (i % 128)) as u32);
     }
+    words
 }
 
 fn run_case(rt: &impl Print, v: [i32; 24], bytes: &[u8]) -> Result<()> {
-    let mut s = [0i32; WORDS];
-    words_of(bytes, &mut s);
+    let s = words_of(bytes);
     let c = components_from(v, 2);
     let n = (bytes.len() / 4) % (WORDS + 1);
     say_answer(rt, run(first(&s, n as u32), first(&c, of_signed(v[1]))))
@@ -144,15 +117,14 @@ fn say_joined(rt: &impl Print, x: u8, last: bool) -> Result<()> {
 fn list_case(rt: &impl Print, page: &[u8]) -> Result<()> {
     let mut text = [0u8; LONGEST];
     let n = list(page, &mut text);
-    let mut i: usize = 0;
-    while i < n {
-        say_joined(rt, text[i], i + 1 == n)?;
-        i += 1;
+    for (i, x) in text[..n].iter().enumerate() {
+        say_joined(rt, *x, i + 1 == n)?;
     }
     Ok(())
 }
 
 // Operations 30 to 36: validating, evaluating, writing a recipe, running one, listing, asking for an ink, reading a text.
+// Kept: an operation is a number in the text of a case, and each arm names the one function that it calls.
 pub fn page_case(rt: &impl Print, op: u32, v: [i32; 24], bytes: &[u8]) -> Result<()> {
     match op {
         30 => validate_case(rt, bytes),

@@ -1,5 +1,6 @@
 -- FORMAT.md, Answers: an answer is one of Gray, RGB, CMYK or XYZ with its floats, no mark, or every ink with its tint, and whether a limit moved anything; or a refusal with its number and block.
 use Rattle.std.specs.Prelude.{ℕ, Bool, List, [], ◌∷◌, Float}
+use Rattle.fixed.specs.Refusals.{number_of}
 use Rattle.cie.specs.declared.Answered.{Answered}
 use Rattle.cie.specs.declared.Answer.{Answer}
 use Rattle.cie.specs.declared.Answer.TheVariants.{Gray, Rgb, Cmyk, Xyz, NoMark, EveryInk, Refused}
@@ -26,7 +27,7 @@ said (Cmyk c y z k) m = answer in_cmyk (c ∷ y ∷ z ∷ k ∷ []) m
 said (Xyz p) m = answer in_xyz (p.x ∷ p.y ∷ p.z ∷ []) m
 said NoMark m = answer no_mark [] m
 said (EveryInk t) m = answer every_ink (t ∷ []) m
-said (Refused n b) m = refusal n b
+said (Refused e) m = refusal (number_of e.refusal) e.block
 
 -- what the two together say
 abbrev pub meaning : Answered → Reply

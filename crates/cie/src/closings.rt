@@ -7,7 +7,7 @@ ghost use Rattle.cie.specs.Closings.{cal_gray_of, decoded_of, mixed_of, cal_rgb_
 use crate::lab_step::lab;
 use crate::steps::{decode, gray, matrix, rgb, white};
 use crate::{Answer, Closing, Decoded, GrayClosing, LabClosing, RgbClosing, Xyz};
-use fixed::float_of;
+use fixed::{Refusal, float_of};
 
 // The point that CalGray gives of its one component.
 pub fn close_gray(k: GrayClosing, a: i32) -> Xyz
@@ -31,8 +31,7 @@ pub fn decode_rgb(k: RgbClosing, a: i32, b: i32, c: i32) -> Decoded
 pub fn mix(k: RgbClosing, d: Decoded) -> Xyz
     ensures { result ≡ mixed_of k d }
 {
-    let m = matrix(k.xa, k.ya, k.za, k.xb, k.yb, k.zb, k.xc, k.yc, k.zc);
-    rgb(m, d.a, d.b, d.c)
+    rgb(matrix(k), d.a, d.b, d.c)
 }
 
 fn close_rgb(k: RgbClosing, a: i32, b: i32, c: i32) -> Xyz
@@ -48,7 +47,8 @@ pub fn close_lab(k: LabClosing, l: i32, a: i32, b: i32) -> Xyz
     lab(white(k.xw, k.zw), l, a, b)
 }
 
-// What the values answer at a closing step that has no numbers: a device space's, that of None or of All, or that of no space. One that has numbers gets 8, as that of no space.
+// What the values answer at a closing step that has no numbers: a device space's, that of None or of All; that of no space is refused, and so is one that has numbers.
+#[tactic(auto, unfolding(crate::specs::Bare::bare_of, crate::specs::Closings::closed_by))]
 pub fn close_bare(k: Closing, a: i32, b: i32, c: i32, d: i32) -> Answer
     ensures { (m : Bool) → said result m ≡ closed_by (bare_of k) (a ∷ b ∷ c ∷ d ∷ []) m }
 {
@@ -58,10 +58,7 @@ pub fn close_bare(k: Closing, a: i32, b: i32, c: i32, d: i32) -> Answer
         Closing::Cmyk => Answer::Cmyk(float_of(a), float_of(b), float_of(c), float_of(d)),
         Closing::NoMark => Answer::NoMark,
         Closing::EveryInk => Answer::EveryInk(float_of(a)),
-        _ => Answer::Refused {
-            number: 8,
-            block: 0,
-        },
+        _ => Answer::Refused(Refusal::NoSuchSpace.of_block(0)),
     }
 }
 

@@ -7,6 +7,7 @@ ghost use Rattle.cie.specs.Steps.{share, lab_xyz};
 use crate::Xyz;
 
 // The cube of v / top where the test passed, and low / bottom where it did not.
+#[tactic(auto, unfolding(crate::specs::Steps::share))]
 fn share_of(t: bool, v: i64, top: f64, low: i64, bottom: f64) -> f64
     requires { T (in_float binary64 v) × T (in_float binary64 low) }
     ensures { result ≡ share t v top low bottom }

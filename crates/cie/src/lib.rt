@@ -6,6 +6,7 @@ mod lab_step;
 mod steps;
 
 pub use closings::{close, close_bare, close_gray, close_lab, decode_rgb, mix};
+use fixed::Refused;
 pub use lab_step::lab;
 pub use steps::{decode, gray, matrix, rgb, white};
 
@@ -25,7 +26,8 @@ pub struct Decoded {
     pub c: f64,
 }
 
-// What is replied to a colour: its floats, or the refusal's number with the block that it is about (0 for the others).
+// What is replied to a colour: its floats, or the refusal with the block that it is about (0 for the others).
+// Kept: an enum of its own with the refusal among its cases, which the customer names (docs/DECISIONS.md, Forms by place in the code).
 #[derive(Clone, Copy)]
 pub enum Answer {
     Gray(f64),
@@ -36,14 +38,30 @@ pub enum Answer {
     NoMark,
     // Every ink, with the tint.
     EveryInk(f64),
-    Refused { number: u32, block: u32 },
+    Refused(Refused),
 }
 
 // An answer, and whether a limit moved anything on the way to it. Beside a refusal that says nothing.
+// Kept: the flag is no sign that the answer is missing, but a part of it (FORMAT.md, Answers).
 #[derive(Clone, Copy)]
 pub struct Answered {
     pub answer: Answer,
     pub moved: bool,
+}
+
+// A refusal as a reply: nothing moved on the way to it.
+impl From<Refused> for Answered {
+    ghost use Rattle.std.specs.Prelude.{◌≡◌, false};
+    ghost use Rattle.cie.specs.declared.Answer.TheVariants.{Refused};
+
+    ghost from_gives = { λ e a. a ≡ record { answer = Refused e; moved = false } };
+
+    fn from(refused: Refused) -> Answered {
+        Answered {
+            answer: Answer::Refused(refused),
+            moved: false,
+        }
+    }
 }
 
 // The numbers of CalGray's closing step: X and Z of the white point, and the gamma.

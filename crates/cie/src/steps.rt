@@ -3,7 +3,7 @@ ghost use Rattle.std.specs.Prelude.{◌≡◌, ◌≤◌, ◌/◌, ◌%◌};
 ghost use Rattle.fixed.specs.Numbers.{most_tenths};
 ghost use Rattle.cie.specs.Steps.{tenths_of, decoded_whole, decoded, white_of, matrix_of, gray_xyz, rgb_xyz};
 
-use crate::Xyz;
+use crate::{RgbClosing, Xyz};
 use fixed::{TENTHS, float_of};
 use tenths::decode_tenths;
 
@@ -18,28 +18,19 @@ pub fn white(xw: i32, zw: i32) -> Xyz
     }
 }
 
-// The matrix of nine numbers in millionths: three rows of three floats, a row to each component.
-pub fn matrix(
-    xa: i32,
-    ya: i32,
-    za: i32,
-    xb: i32,
-    yb: i32,
-    zb: i32,
-    xc: i32,
-    yc: i32,
-    zc: i32,
-) -> [[f64; 3]; 3]
-    ensures { result ≡ matrix_of xa ya za xb yb zb xc yc zc }
+// The matrix of CalRGB's nine numbers in millionths: three rows of three floats, a row to each component.
+pub fn matrix(k: RgbClosing) -> [[f64; 3]; 3]
+    ensures { result ≡ matrix_of k.xa k.ya k.za k.xb k.yb k.zb k.xc k.yc k.zc }
 {
     [
-        [float_of(xa), float_of(ya), float_of(za)],
-        [float_of(xb), float_of(yb), float_of(zb)],
-        [float_of(xc), float_of(yc), float_of(zc)],
+        [float_of(k.xa), float_of(k.ya), float_of(k.za)],
+        [float_of(k.xb), float_of(k.yb), float_of(k.zb)],
+        [float_of(k.xc), float_of(k.yc), float_of(k.zc)],
     ]
 }
 
 // A gamma in millionths as a count of tenths; none that is carried has more than TENTHS.
+#[tactic(auto, unfolding(crate::specs::Steps::tenths_of))]
 fn tenths(gamma: i32) -> u32
     ensures is { result ≡ tenths_of gamma }
     ensures small { result ≤ most_tenths }
@@ -47,14 +38,11 @@ fn tenths(gamma: i32) -> u32
     if gamma < 0 {
         return 0;
     }
-    let p = (gamma as u32) / 100000;
-    if TENTHS < p {
-        return TENTHS;
-    }
-    p
+    (gamma as u32 / 100_000).min(TENTHS)
 }
 
 // a to the power of a whole gamma of p tenths.
+#[tactic(auto, unfolding(crate::specs::Steps::decoded_whole))]
 fn decode_whole(a: f64, p: u32) -> f64
     requires { (p % 10 ≡ 0) × (p ≤ most_tenths) }
     ensures { result ≡ decoded_whole a (p / 10) }
@@ -68,6 +56,7 @@ fn decode_whole(a: f64, p: u32) -> f64
 }
 
 // The component a decoded by a gamma, both in millionths. The component is as it stands.
+#[tactic(auto, unfolding(crate::specs::Steps::decoded))]
 pub fn decode(a: i32, gamma: i32) -> f64
     ensures { result ≡ decoded (tenths_of gamma) a }
 {

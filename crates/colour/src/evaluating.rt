@@ -4,20 +4,16 @@ ghost use Rattle.cie.specs.Answers.{meaning};
 ghost use Rattle.colour.specs.Evaluating.{evaluated};
 
 use crate::answers::evaluate_space;
-use cie::{Answer, Answered};
-use page::{Verdict, validate};
+use cie::Answered;
+use page::validate;
 
 // Evaluates a colour of the space at a number of a page: a block's number, or a device code. The refusal of validation, then 8, then 9, then the answer and
 // whether a limit moved anything.
 pub fn evaluate(page: &[u8], reference: u32, components: &[i32]) -> Answered
     ensures { meaning result ≡ evaluated page.now reference components.now }
 {
-    let v = validate(page);
-    match v {
-        Verdict::Accepted => evaluate_space(page, reference, components),
-        Verdict::Refused { number, block } => Answered {
-            answer: Answer::Refused { number, block },
-            moved: false,
-        },
+    match validate(page) {
+        Ok(()) => evaluate_space(page, reference, components),
+        Err(refused) => Answered::from(refused),
     }
 }

@@ -17,8 +17,8 @@ use Rattle.reader.specs.Texts.{Answer, refusal, room_after, start, part_of, sett
 use Rattle.tokens.specs.Sizes.{Sizes}
 use Rattle.states.specs.declared.types.State.{State}
 use Rattle.states.specs.Words.{state_in}
-use Rattle.judging.specs.declared.types.Reply.{Reply}
-use Rattle.judging.specs.declared.types.Reply.TheVariants.{Refused}
+use Rattle.std.specs.Prelude.{Result, Err}
+use Rattle.judging.specs.declared.types.TextRefusal.{TextRefusal}
 use Rattle.judging.specs.Replies.{replied, Ends}
 use Rattle.designer.specs.State.{progress_at}
 use Rattle.designer.specs.Lent.{Memory, sized, is_sized, progress_in, View, stands, foreign, view_of, lent_fault, begun_view, part_view, end_view, answer_of}
@@ -103,7 +103,7 @@ module _ (m : Memory) (h : is_sized m ≡ false) where
   unfolding answer_of
   answer-foreign room = ap (answer_of room) view-foreign
 
-  pub ends_foreign : (room : ℕ) (d : List ℕ) → Ends (Refused 10 0) d d (answer_of room (view_of m))
+  pub ends_foreign : (room : ℕ) (d : List ℕ) → Ends (Err (record { number = 10; at = 0 })) d d (answer_of room (view_of m))
   unfolding replied room_after
   ends_foreign room d = (sym (ap replied (answer-foreign room)), sym (ap (λ (a : Answer). room_after a d) (answer-foreign room)))
 
@@ -152,7 +152,7 @@ module _ (m : Memory) (h : is_sized m ≡ true) where
           ∙ (λ i. finished (took room) (progress_at (loaded i) m.values m.word m.marks m.names m.opens m.page)))
           ∙ ap (end_view room) (sym view-stands)
 
-  pub ends-stands : (room : ℕ) {s : State} {p : Progress Parser} (r : Reply) (d d' : List ℕ) → s ≡ state_in m.words
+  pub ends-stands : (room : ℕ) {s : State} {p : Progress Parser} (r : Result ℕ TextRefusal) (d d' : List ℕ) → s ≡ state_in m.words
       → p ≡ finished (took room) (progress_at s m.values m.word m.marks m.names m.opens m.page) → Ends r d d' (concluded room p)
       → Ends r d d' (answer_of room (view_of m))
   unfolding answer_of settled

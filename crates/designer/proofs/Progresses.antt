@@ -11,28 +11,14 @@ use Rattle.lexer.specs.declared.types.Met.{Met}
 use Rattle.lexer.specs.declared.types.Met.TheVariants.{Nothing, Complete, Wrong, Past}
 use Rattle.lexer.specs.declared.types.Found.{Found}
 use Rattle.lexer.specs.declared.types.Lexer.{Lexer}
-use Rattle.lexer.specs.Scans.{Scan, Taken, takes, refuses, Progress, going, stopped, taken, handed, fed, finished, found, Finding, last_scan, last_met, scan_at, found_at}
+use Rattle.lexer.specs.Scans.{Scan, Progress, going, stopped, handed, fed, finished, found, Finding, last_scan, last_met, scan_at, found_at}
 use Rattle.lexer.proofs.Texts.{fed-stopped, found-fed, pending, found-falls, found_nothing}
-use Rattle.reader.specs.declared.types.Took.{Took}
 use Rattle.reader.specs.Spaces.{Parser}
-use Rattle.reader.specs.Kept.{parser_at, took_at}
+use Rattle.reader.specs.Kept.{parser_at}
 use Rattle.reader.specs.Tokens.{took}
 use Rattle.reader.specs.Texts.{part_of}
 use Rattle.states.specs.declared.types.State.{State}
 use Rattle.designer.specs.State.{is_complete, progress_at}
-
--- ---- what a token comes to, where it is taken and where it is refused
-
-module _ (s : Scan) (k : Took) (values : List ℤ) (marks names opens page : List ℕ) {x : Taken Parser}
-    (e : took_at k values marks names opens page ≡ x) where
-  pub taken-on : k.refusal ≡ 0 → taken s x ≡ going s (parser_at k.head values marks names opens page)
-  unfolding took_at taken
-  taken-on h =
-      let q : x ≡ takes (parser_at k.head values marks names opens page) = sym e ∙ rw (eq-eqb k.refusal 0 h) in ap (taken s) q
-
-  pub taken-off : (k.refusal ≡ 0 → ⊥) → taken s x ≡ stopped k.refusal s.first
-  unfolding took_at taken
-  taken-off h = let q : x ≡ refuses k.refusal = sym e ∙ rw (ne_eqb k.refusal 0 h) in ap (taken s) q
 
 -- ---- a part of the text
 

@@ -1,5 +1,6 @@
 // A part of the text, from token to token.
-ghost use Rattle.std.specs.Prelude.{◌≡◌, List, ℕ, ◌≤◌, ℤ, length};
+ghost use Rattle.std.specs.Prelude.{◌≡◌, List, ℕ, ℤ, length};
+ghost use Rattle.fixed.specs.Refusals.{number_of};
 ghost use Rattle.lexer.specs.Scans.{scan_at, going, stopped, handed, finished};
 ghost use Rattle.reader.specs.Kept.{parser_at};
 ghost use Rattle.reader.specs.Texts.{part_of};
@@ -7,38 +8,42 @@ ghost use Rattle.reader.specs.Tokens.{took};
 ghost use Rattle.tokens.specs.Sizes.{Sizes};
 ghost use Rattle.designer.specs.State.{is_complete, progress_at};
 
+use fixed::Refusal;
 use lexer::{Lexer, Met};
 use reader::Head;
 use states::State;
 
 // The text is read on.
-fn keep(l: Lexer, h: Head) -> State
-    ensures is { (values : List ℤ) (word marks names opens page : List ℕ) → progress_at result values word marks names opens page ≡ going (scan_at l word) (parser_at h values marks names opens page) }
-    ensures stays { result.lexer ≡ l }
+#[tactic(auto, unfolding(crate::specs::State::progress_at))]
+fn keep(lexer: Lexer, head: Head) -> State
+    ensures is { (values : List ℤ) (word marks names opens page : List ℕ) → progress_at result values word marks names opens page ≡ going (scan_at lexer word) (parser_at head values marks names opens page) }
+    ensures stays { result.lexer ≡ lexer }
 {
     State {
-        lexer: l,
-        head: h,
+        lexer,
+        head,
         refusal: 0,
         place: 0,
     }
 }
 
-// It is refused with a number, at a byte.
-fn stop(l: Lexer, h: Head, n: u32, at: u32) -> State
-    requires { 1 ≤ n }
-    ensures is { (values : List ℤ) (word marks names opens page : List ℕ) → progress_at result values word marks names opens page ≡ stopped n at }
-    ensures stays { result.lexer ≡ l }
+// It is refused at a byte.
+#[tactic(auto, unfolding(crate::specs::State::progress_at))]
+fn stop(lexer: Lexer, head: Head, refusal: Refusal, place: u32) -> State
+    ensures is { (values : List ℤ) (word marks names opens page : List ℕ) → progress_at result values word marks names opens page ≡ stopped (number_of refusal) place }
+    ensures stays { result.lexer ≡ lexer }
 {
     State {
-        lexer: l,
-        head: h,
-        refusal: n,
-        place: at,
+        lexer,
+        head,
+        refusal: refusal.number(),
+        place,
     }
 }
 
 // What is met is handed on.
+// Kept: the lists are parameters. A struct of `&mut` would have each contract say of each list that it is the same one, of its length, and what of it stays.
+#[tactic(auto, unfolding(lexer::specs::Scans::handed, lexer::specs::Scans::taken))]
 pub fn hand(
     l: Lexer,
     h: Head,
@@ -57,15 +62,13 @@ pub fn hand(
 {
     match m {
         Met::Nothing => keep(l, h),
-        Met::Wrong => stop(l, h, 12, l.first),
-        Met::Past => stop(l, h, 12, l.seen),
+        Met::Wrong => stop(l, h, Refusal::Syntax, l.first),
+        Met::Past => stop(l, h, Refusal::Syntax, l.seen),
         Met::Complete(t) => {
-            let k = tokens::take_token(h, l, t, room, values, word, marks, names, opens, blocks);
-            let g = k.head;
-            if k.refusal != 0 {
-                return stop(l, g, k.refusal, l.first);
+            match tokens::take_token(h, l, t, room, values, word, marks, names, opens, blocks) {
+                Ok(g) => keep(l, g),
+                Err(refusal) => stop(l, h, refusal, l.first),
             }
-            keep(l, g)
         }
     }
 }
@@ -73,12 +76,7 @@ pub fn hand(
 fn is_complete(m: Met) -> bool
     ensures { result ≡ is_complete m }
 {
-    match m {
-        Met::Nothing => false,
-        Met::Complete(_) => true,
-        Met::Wrong => false,
-        Met::Past => false,
-    }
+    matches!(m, Met::Complete(_))
 }
 
 // A part of the text.
@@ -98,18 +96,16 @@ pub fn read(
 {
     let mut t = s;
     let mut i: usize = 0;
+    // Kept: a `while`, for it counts nothing: it goes on from where the lexer stopped.
     while t.refusal == 0 {
-        let l = t.lexer;
-        let h = t.head;
-        let f = lexer::find(l, word, text, i);
-        let g = f.lexer;
-        let m = f.met;
+        let f = lexer::find(t.lexer, word, text, i);
         i = f.at;
-        let u = hand(g, h, m, room, values, word, marks, names, opens, blocks);
-        if !is_complete(m) {
-            return u;
+        t = hand(
+            f.lexer, t.head, f.met, room, values, word, marks, names, opens, blocks,
+        );
+        if !is_complete(f.met) {
+            return t;
         }
-        t = u;
     }
     t
 }
@@ -131,10 +127,8 @@ pub fn finish(
     if s.refusal != 0 {
         return s;
     }
-    let l = s.lexer;
-    let h = s.head;
-    let e = lexer::finish(l);
-    let g = e.lexer;
-    let m = e.met;
-    hand(g, h, m, room, values, word, marks, names, opens, blocks)
+    let e = lexer::finish(s.lexer);
+    hand(
+        e.lexer, s.head, e.met, room, values, word, marks, names, opens, blocks,
+    )
 }

@@ -1,30 +1,15 @@
 // Cases of designers' texts, read in parts.
-ghost use Rattle.std.specs.Prelude.{◌≤◌};
 
-use judging::Reply;
+use judging::TextRefusal;
 use octets::of_signed;
 use small_cases::is_kept;
-use std::io::Result;
+use std::io;
 use text::{say, say_dotted, say_size};
 
 // The most room that a case lends: twice what the most blocks need.
 const ROOM: usize = 2 * designer::BLOCK_BYTES;
 
-// How many of the bytes that are left the next part has: all where parts have no size.
-fn part_size(left: usize, size: usize) -> usize
-    requires { 1 ≤ left }
-    ensures { (1 ≤ result) × (result ≤ left) }
-{
-    if size == 0 {
-        return left;
-    }
-    if left < size {
-        return left;
-    }
-    size
-}
-
-// Reads a text in parts of this size.
+// Reads a text in parts of this size; all at once where parts have no size.
 fn read_parts(
     text: &[u8],
     size: usize,
@@ -37,38 +22,13 @@ fn read_parts(
     opens: &mut [u32],
     blocks: &mut [u8],
 ) {
-    let mut i: usize = 0;
-    while i < text.len() {
-        let next = i + part_size(text.len() - i, size);
-        designer::part(
-            &text[i..next],
-            room,
-            words,
-            values,
-            word,
-            marks,
-            names,
-            opens,
-            blocks,
-        );
-        i = next;
+    let part_size = if size == 0 { text.len().max(1) } else { size };
+    for part in text.chunks(part_size) {
+        let _ = designer::part(part, room, words, values, word, marks, names, opens, blocks);
     }
 }
 
-fn is_same(a: Reply, b: Reply) -> bool {
-    match a {
-        Reply::Page(n) => match b {
-            Reply::Page(m) => n == m,
-            Reply::Refused(_, _) => false,
-        },
-        Reply::Refused(number, at) => match b {
-            Reply::Page(_) => false,
-            Reply::Refused(other, place) => (number == other) & (at == place),
-        },
-    }
-}
-
-fn say_page(rt: &impl Print, n: u32, room: &[u8]) -> Result<()> {
+fn say_page(rt: &impl Print, n: u32, room: &[u8]) -> io::Result<()> {
     let size = 512 * (n as usize);
     if room.len() < size {
         return Ok(());
@@ -83,21 +43,18 @@ fn say_page(rt: &impl Print, n: u32, room: &[u8]) -> Result<()> {
     Ok(())
 }
 
-fn say_refused(rt: &impl Print, number: u32, at: u32, room: &[u8]) -> Result<()> {
-    say(rt, b"refused ")?;
-    say_size(rt, number)?;
-    say(rt, b" at ")?;
-    say_size(rt, at)?;
+fn say_refused(rt: &impl Print, refusal: TextRefusal, room: &[u8]) -> io::Result<()> {
+    print!(rt; "{refusal}")?;
     if is_kept(room) {
         say(rt, b" kept")?;
     }
     Ok(())
 }
 
-fn say_reply(rt: &impl Print, r: Reply, room: &[u8]) -> Result<()> {
+fn say_reply(rt: &impl Print, r: Result<u32, TextRefusal>, room: &[u8]) -> io::Result<()> {
     match r {
-        Reply::Page(n) => say_page(rt, n, room),
-        Reply::Refused(number, at) => say_refused(rt, number, at, room),
+        Ok(n) => say_page(rt, n, room),
+        Err(refusal) => say_refused(rt, refusal, room),
     }
 }
 
@@ -112,18 +69,18 @@ fn end_twice(
     names: &mut [u8],
     opens: &mut [u32],
     blocks: &mut [u8],
-) -> Result<()> {
+) -> io::Result<()> {
     let first = designer::end(room, words, values, word, marks, names, opens, blocks);
     let second = designer::end(room, words, values, word, marks, names, opens, blocks);
     say_reply(rt, second, room)?;
-    if !is_same(first, second) {
+    if first != second {
         say(rt, b" not as before")?;
     }
     Ok(())
 }
 
 // Reads a text into room that holds AA, over memory that nobody has cleared.
-fn read_into(rt: &impl Print, room: &mut [u8], size: usize, text: &[u8]) -> Result<()> {
+fn read_into(rt: &impl Print, room: &mut [u8], size: usize, text: &[u8]) -> io::Result<()> {
     let mut words = [7u64; designer::WORDS];
     let mut values = [7i32; designer::VALUES];
     let mut word = [0xaau8; designer::WORD_BYTES];
@@ -131,7 +88,7 @@ fn read_into(rt: &impl Print, room: &mut [u8], size: usize, text: &[u8]) -> Resu
     let mut names = [0xaau8; designer::NAME_BYTES];
     let mut opens = [7u32; designer::BLOCKS];
     let mut blocks = [0xaau8; designer::BLOCK_BYTES];
-    designer::begin(
+    let _ = designer::begin(
         &mut words,
         &mut values,
         &word,
@@ -166,7 +123,7 @@ fn read_into(rt: &impl Print, room: &mut [u8], size: usize, text: &[u8]) -> Resu
 }
 
 // Operation 36: a text in parts, with its room and the size of a part before it.
-pub fn text_case(rt: &impl Print, v: [i32; 24], text: &[u8]) -> Result<()> {
+pub fn text_case(rt: &impl Print, v: [i32; 24], text: &[u8]) -> io::Result<()> {
     let mut room = [0xaau8; ROOM];
     let n = of_signed(v[1]) as usize;
     if n <= ROOM {

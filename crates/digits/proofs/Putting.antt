@@ -59,10 +59,8 @@ module _ (s d : List ℕ) (at : ℕ) where
       stores (take i s) d at (at + i) (get_or s i 0 ∷ []) l p q.stored ∙ ap (sets d at) (sym t)
 
   -- and all of them
-  pub all-put : {e : List ℕ} (i : ℕ) → i ≤ length s → length s ≤ i → e ≡ sets d at (take i s) → Put (length s) d at s e (at + i)
-  all-put i g h p =
-      let e : i ≡ length s = omega arith in
-      record { stored = p ∙ ap (sets d at) (take_all i s h); ends = ap (λ (k : ℕ). at + k) e; short = omega arith }
+  pub all-put : {e : List ℕ} (i : ℕ) → length s ≤ i → e ≡ sets d at (take i s) → Put (length s) d at s e (at + length s)
+  all-put i h p = record { stored = p ∙ ap (sets d at) (take_all i s h); ends = refl; short = omega arith }
 
 -- of a number's digits
 pub one-digit : {at r n : ℕ} {d e : List ℕ} → n < 10 → Put 1 d at (digit n ∷ []) e r → Put 10 d at (digits n) e r

@@ -1,4 +1,6 @@
 // Storing numbers that stand together: a triple, a number for each component of an alternate space, the ranges of a* and b*.
+#![tactic(auto, unfolding(layout::specs::Field::puts))]
+
 ghost use Rattle.std.specs.Prelude.{◌≡◌, [], ◌+◌, ◌≤◌, length};
 ghost use Rattle.layout.specs.Field.{puts};
 ghost use Rattle.record.specs.Layout.{triple, ranges, four};

@@ -12,7 +12,7 @@ use borrow.Author.Tests.{ltb-true, ltb-false, lt-ltb, le-ltb}
 use lib.IntN.{ℤ, pos, negsuc, neg_ℤ, sub_ℕ, ◌+ℤ◌, ◌-ℤ◌, ◌*ℤ◌}
 use lib.Signed.{lt_z}
 use lib.Arith.{digits_div}
-use mir.Syntax.{Width, w32, w64}
+use mir.Syntax.{Width}
 use mir.Val.{SFits, hbits}
 use Rattle.fixed.specs.Numbers.{floor_div, half_up}
 
@@ -156,10 +156,6 @@ pos-at h p = same h (record { eq = omega arith })
 
 pub sub_at : {z : ℤ} {a b : ℕ} → Diff z a b → (c d : ℕ) → a + d ≡ c + b → z ≡ sub_ℕ c d
 sub_at h c d e = same (shift h e) (of-sub c d)
-
--- a wider type holds it
-pub widened : {z : ℤ} → SFits w32 z → SFits w64 z
-widened {z} f = fits-at (itself z) (omega (arith, up_lt f)) (omega (arith, down_le f))
 
 pub of_eq : {z : ℤ} (a b : ℕ) → z ≡ sub_ℕ a b → Diff z a b
 of_eq a b e = rw e (of-sub a b)

@@ -18,3 +18,4 @@ pub mod Totals
 pub mod Listed
 pub mod Trips
 pub mod Places
+pub mod Numbered

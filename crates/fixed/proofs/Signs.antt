@@ -1,4 +1,4 @@
--- What a test of two signed numbers says, of the numbers and not of their bits.
+-- What a signed number that went through a local or a call is, and what a test of it says, of the number and not of its bits.
 use mathlib.Core.Path.{◌≡◌, refl, sym, ◌∙◌, subst}
 use mathlib.Core.Bool.{Bool, true, false, true≢false}
 use native.Mathlib.Omega.{arith}
@@ -10,9 +10,6 @@ use borrow.Author.Tests.{leb-true, le-ltb}
 use mir.Syntax.{Width, w32}
 use mir.Val.{Fits, SFits, to_z, of_z}
 use mir.ValLaws.{to_z-of_z}
-
-pub tested : {w : Width} {a b : ℤ} {t : Bool} → SFits w a → SFits w b → lt_z (to_z w (of_z w a)) (to_z w (of_z w b)) ≡ t → lt_z a b ≡ t
-tested {w} {a} {b} f g e = simp (to_z-of_z w a f, to_z-of_z w b g) at e
 
 -- a signed number that went through a local or into a call is itself: what a callee says of a signed argument, it says of that number
 pub signed_back : {w : Width} {z : ℤ} → SFits w z → to_z w (of_z w z) ≡ z

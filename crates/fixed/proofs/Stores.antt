@@ -1,12 +1,12 @@
 -- Runs of stores. No bound is asked: a store past the end does nothing.
-use mathlib.Core.Path.{◌≡◌, ap, ◌∙◌}
-use mathlib.Core.List.{List, [], ◌∷◌, ◌++◌}
-use Prim.Native.Nat.{ℕ, suc, ◌+◌, ◌/◌, ◌%◌, ◌≤◌}
+use mathlib.Core.Path.{◌≡◌, ap, sym, ◌∙◌}
+use mathlib.Core.List.{List, [], ◌∷◌, ◌++◌, append_assoc}
+use Prim.Native.Nat.{ℕ, suc, ◌+◌, ◌-◌, ◌/◌, ◌%◌, ◌≤◌}
 use native.Mathlib.Nat.{add-zero}
 use native.Mathlib.Numerals.{add-one, towards_suc}
 use native.Mathlib.Omega.{arith}
-use lib.ListN.{length, set, drop}
-use lib.Seq.{sets, sets-eq}
+use lib.ListN.{length, set, take, drop}
+use lib.Seq.{sets, sets-eq, drop-drop}
 use Rattle.fixed.specs.Bytes.{two_bytes, four_bytes}
 
 -- the bytes of a number, stored one by one
@@ -32,6 +32,12 @@ module _ {A : Type 0} where
       let k : 0 + length ws ≡ length ws = omega arith in
       let o : 0 + length ws ≤ length d = omega arith in
       sets-eq ws d 0 o ∙ ap (λ (j : ℕ). ws ++ drop j d) k
+
+  -- a run copied over the elements from `at` to below e
+  pub copied : (ws d : List A) (at e : ℕ) → at + length ws ≡ e → e ≤ length d → take at d ++ (ws ++ drop (e - at) (drop at d)) ≡ sets d at ws
+  copied ws d at e p h =
+      let q : at + (e - at) ≡ at + length ws = omega arith in
+      ap (λ (l : List A). take at d ++ (ws ++ l)) (drop-drop (e - at) at d ∙ ap (λ (k : ℕ). drop k d) q) ∙ sym (sets-eq ws d at (omega arith) ∙ append_assoc (take at d) ws (drop (at + length ws) d))
 
   -- a run of stores that goes on where another ended
   pub then : (ws d : List A) {x y : List A} (at k : ℕ) (vs : List A) → k ≡ at + length ws → x ≡ sets d at ws → y ≡ sets x k vs → y ≡ sets d at (ws ++ vs)

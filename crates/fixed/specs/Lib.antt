@@ -4,3 +4,4 @@ pub mod Bytes
 pub mod Values
 pub mod Sizes
 pub mod Loops
+pub mod Refusals

@@ -6,5 +6,5 @@ ghost use Rattle.fixed.specs.Bytes.{device};
 pub fn is_device(n: u32) -> bool
     ensures { result ≡ device n }
 {
-    (n == 0xFF01) | ((n == 0xFF03) | (n == 0xFF04))
+    matches!(n, 0xFF01 | 0xFF03 | 0xFF04)
 }

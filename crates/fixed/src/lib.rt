@@ -5,6 +5,7 @@
 mod codes;
 mod float;
 mod limits;
+mod refusals;
 mod rounding;
 mod table;
 mod values;
@@ -12,10 +13,11 @@ mod values;
 pub use codes::is_device;
 pub use float::float_of;
 pub use limits::{is_exponent, is_gamma, is_outside, limit, unit_part};
+pub use refusals::{Refusal, Refused};
 pub use rounding::{
     Index, index_of, lowered, over_one, palette_value, part_way, raised, tint_power, tint_value,
 };
-pub use values::{Colour, small_at, start, value_at};
+pub use values::{Colour, small, small_at, start, value_at};
 
 // How many values a colour's steps act on.
 pub const VALUES: usize = 8;

@@ -46,14 +46,10 @@ pub fn palette_value(table: &[u32], b: u32, lo: i32, hi: i32) -> i32
     requires { (b ≤ 255) × OverOne table.now }
     ensures { result ≡ palette_value b lo hi }
 {
-    if (b as usize) < table.len() {
-        if lo == 0 {
-            if hi == 1000000 {
-                return table[b as usize] as i32;
-            }
-        }
+    match table.get(b as usize) {
+        Some(&value) if lo == 0 && hi == 1000000 => value as i32,
+        _ => part_way(lo, hi, b as u64, 255),
     }
-    part_way(lo, hi, b as u64, 255)
 }
 
 // The tint x, of 0..1 in millionths, to an exponent of whole units.
@@ -64,10 +60,8 @@ pub fn tint_power(x: u32, exponent: u32) -> u32
 {
     let tint = x as u64;
     let mut q = tint;
-    let mut i: u32 = 1;
-    while i < exponent {
+    for _ in 1..exponent {
         q = (2 * (q * tint) + 1000000) / 2000000;
-        i += 1;
     }
     q as u32
 }
@@ -81,7 +75,8 @@ pub fn tint_value(c0: i32, c1: i32, q: u32) -> i32
 }
 
 // Where an index lies among the rows 0..hival.
-#[derive(Clone, Copy, Drop)]
+// Kept: the flag is a part of the answer, and the row is there with either.
+#[derive(Clone, Copy, Debug, PartialEq, Eq)]
 pub struct Index {
     // The row that it picks: the nearest of them.
     pub row: u32,
@@ -95,21 +90,18 @@ pub fn index_of(v: i32, hival: u32) -> Index
 {
     let u = raised(v);
     let n = (u + 1016352) / 1000000;
-    if n < 2148 {
-        return Index {
+    match n.checked_sub(2148) {
+        None => Index {
             row: 0,
             outside: true,
-        };
-    }
-    let row = (n - 2148) as u32;
-    if hival < row {
-        return Index {
+        },
+        Some(row) if row <= hival as u64 => Index {
+            row: row as u32,
+            outside: false,
+        },
+        Some(_) => Index {
             row: hival,
             outside: true,
-        };
-    }
-    Index {
-        row,
-        outside: false,
+        },
     }
 }

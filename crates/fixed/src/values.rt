@@ -3,9 +3,11 @@ ghost use Rattle.std.specs.Prelude.{◌≡◌};
 ghost use Rattle.fixed.specs.Values.{places, value, small_of, started};
 
 use crate::VALUES;
+use crate::limits::{is_outside, limit};
 
 // A colour on its way from its components to an answer.
-#[derive(Clone, Copy, Drop)]
+// Kept: the flag is no sign that the values are missing, but a part of the answer.
+#[derive(Clone, Copy, Debug, PartialEq, Eq)]
 pub struct Colour {
     // Its values; at the start the components, and 0 where none is given.
     pub values: [i32; VALUES],
@@ -13,21 +15,37 @@ pub struct Colour {
     pub moved: bool,
 }
 
+impl Colour {
+    ghost use Rattle.std.specs.Prelude.{◌≡◌, ◌<◌};
+    ghost use Rattle.fixed.specs.Values.{places, limit_step};
+
+    // The colour with value k limited to lo..hi, which moves it where that value lies outside.
+    #[tactic(auto, unfolding(crate::specs::Values::limit_step, crate::specs::Values::limited_at))]
+    pub fn limited(self, k: usize, lo: i32, hi: i32) -> Colour
+        requires { k < places }
+        ensures { result ≡ limit_step k lo hi self }
+    {
+        let value = self.values[k];
+        let mut values = self.values;
+        values[k] = limit(value, lo, hi);
+        let moved = self.moved || is_outside(value, lo, hi);
+        Colour { values, moved }
+    }
+}
+
 // Number k of a list, 0 where there is none.
+// Kept: 0 is no sign that there is none, but what a list has past its end (the definition `value`).
 pub fn value_at(l: &[i32], k: usize) -> i32
     ensures { result ≡ value l.now k }
 {
-    if k < l.len() { l[k] } else { 0 }
+    l.get(k).copied().unwrap_or(0)
 }
 
 // A number that is not negative, as it is; a negative one is 4294967295, which is beyond every bound.
-fn small(v: i32) -> u32
+pub fn small(v: i32) -> u32
     ensures { result ≡ small_of v }
 {
-    if v < 0 {
-        return 4294967295;
-    }
-    v as u32
+    u32::try_from(v).unwrap_or(u32::MAX)
 }
 
 // Number k of a list as a small number: a negative one is 4294967295, which is beyond every bound.
@@ -41,15 +59,12 @@ pub fn small_at(l: &[i32], k: usize) -> u32
 pub fn start(components: &[i32]) -> Colour
     ensures { result ≡ started places components.now }
 {
-    let mut v = [0; VALUES];
-    let mut k: usize = 0;
-    while k < VALUES {
-        let x = value_at(components, k);
-        v[k] = x;
-        k += 1;
+    let mut values = [0; VALUES];
+    for (k, value) in values.iter_mut().enumerate() {
+        *value = value_at(components, k);
     }
     Colour {
-        values: v,
+        values,
         moved: false,
     }
 }

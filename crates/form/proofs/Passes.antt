@@ -1,6 +1,6 @@
 -- The checker's loop: one word of it, and its end.
 use mathlib.Core.Path.{◌≡◌, refl, sym, ap, ◌∙◌}
-use mathlib.Core.Bool.{Bool, true, false, cond, ◌&&◌}
+use mathlib.Core.Bool.{Bool, true, false, cond}
 use mathlib.Core.List.{List, [], ◌∷◌, ◌++◌}
 use Prim.Native.Nat.{ℕ, zero, suc, ◌+◌, ◌-◌, ◌≤◌, ◌<◌, ◌/◌, ◌%◌}
 use native.Mathlib.Omega.{arith}
@@ -8,20 +8,17 @@ use lib.IntN.{ℤ, pos}
 use lib.Dec.{eqb, ltb, leb}
 use lib.ListN.{length, get_or, take, drop, length-drop, drop_of_length-le}
 use lib.Seq.{drop-drop, get_or-drop}
-use borrow.Author.Tests.{eqb-true, eqb-false, le-leb, lt-leb}
-use Rattle.stack.specs.Stack.{most, pushed, unary, binary, copied, rolled, turns, truth, same_z}
+use Rattle.stack.specs.Stack.{most, pushed, unary, binary, copied, rolled, turns, truth}
 use Rattle.fixed.specs.Values.{value, small_of}
-use Rattle.stack.specs.Memory.{stack_of}
 use Rattle.stack.specs.Operators.{is_true, gives, one_kind, acted}
 use Rattle.stack.specs.Programs.{Two, sum, test, join, One, neg, abs, nay, Op, number, copy, index, roll, two, one, constant, pop, exch, dup}
-use Rattle.stack.specs.Judging.{fine, typed, tested, Judged, fits, wrong}
-use Rattle.stack.specs.Flat.{Item, op, unless, jump, none, code_of, size_of, op_by, item_by, item_of}
+use Rattle.stack.specs.Judging.{fine, typed, tests, tested, Judged, fits, wrong}
+use Rattle.std.specs.Prelude.{Option, None, Some, MatchOption}
+use Rattle.stack.specs.Flat.{Item, op, unless, jump, none, item_of}
 use Rattle.form.specs.Paths.{Place, unmet, Places, at, ill, comes, then_p, leaves, width_of, ends, checks}
 use Rattle.form.specs.Table.{kinds_up, low_part, kinds_by, first_at, second_at, head_at, kinds_at, place_by, place_at, places_from, bits_of, arrived, leaves_at, passed, verdict}
 use Rattle.stack.proofs.Runs.{part-is}
-use Rattle.stack.proofs.Stacks.{stack-length, stack-drop}
 use Rattle.form.proofs.Judged.{checks-ill}
-use Rattle.stack.proofs.Reading.{size-pos, item-none, item-unless, item-jump, item-op}
 use Rattle.form.proofs.Turns.{from_p, comes-from, turn-checks, turn-unmet, mid-free, mid-met}
 use Rattle.form.proofs.Tables.{places-length, places-get}
 
@@ -123,60 +120,41 @@ bits-kinds t p h = bits_up (second_at t p) (h - low_part h) _ (bits_up (first_at
 
 -- ---- an item's paths
 
-module _ (w : ℕ) (x y : ℤ) (a : List ℤ) (h p : ℕ) (T : List Place) where
-  abbrev s : List ℤ
-  s = stack_of a h
-
-  pub leave-jump : w ≡ 6 → bits_of s ≡ s → (k : ℕ) → k ≡ small_of x → comes (bits_of s) (p + 1 + (1 + k)) T ≡ leaves_at (item_by w x y) s p T
-  leave-jump e b k ek = (λ i. comes (b i) (p + 1 + (1 + ek i)) T) ∙ ap (λ (i : Item). leaves_at i s p T) (sym (item-jump w x y e))
-
-  module _ (m : w ≡ 0 → ⊥) (n : w ≡ 5 → ⊥) (o : w ≡ 6 → ⊥) where
-    typed-is : (b : Bool) → b ≡ fine (op_by w x y) s → typed (op_by w x y) s ≡ cond b (fits (acted true (op_by w x y) s)) wrong
+module _ (s : List ℤ) (p : ℕ) (T : List Place) where
+  module _ (o : Op) (n : ℕ) where
+    typed-is : (b : Bool) → b ≡ fine o s → typed o s ≡ cond b (fits (acted true o s)) wrong
     unfolding typed
-    typed-is b e = ap (λ (c : Bool). cond c (fits (acted true (op_by w x y) s)) wrong) (sym e)
+    typed-is b e = ap (λ (c : Bool). cond c (fits (acted true o s)) wrong) (sym e)
 
-    pub leave-wrong : false ≡ fine (op_by w x y) s → ill ≡ leaves_at (item_by w x y) s p T
-    leave-wrong e =
-        sym (ap (λ (i : Item). leaves_at i s p T) (item-op w x y m n o)
-        ∙ ap (λ (j : Judged). elim j [ fits js ↦ comes js (p + 1 + (size_of w - 1)) T | wrong ↦ ill ]) (typed-is false e))
+    pub leave-wrong : false ≡ fine o s → ill ≡ leaves_at (op o n) s p T
+    leave-wrong e = sym (ap (λ (j : Judged). elim j [ fits js ↦ comes js (p + 1 + n) T | wrong ↦ ill ]) (typed-is false e))
 
-    pub leave-op : true ≡ fine (op_by w x y) s → bits_of s ≡ s → (u : List ℤ) → u ≡ acted true (op_by w x y) s → (z : ℕ) → z ≡ size_of w → comes (bits_of u) (p + 1 + (z - 1)) T ≡ leaves_at (item_by w x y) s p T
-    leave-op e b u eu z ez =
-        (λ i. comes ((ap bits_of eu ∙ bits-kept (op_by w x y) s b) i) (p + 1 + (ez i - 1)) T)
-        ∙ sym (ap (λ (i : Item). leaves_at i s p T) (item-op w x y m n o)
-        ∙ ap (λ (j : Judged). elim j [ fits js ↦ comes js (p + 1 + (size_of w - 1)) T | wrong ↦ ill ]) (typed-is true e))
+    pub leave-op : true ≡ fine o s → bits_of s ≡ s → {u : List ℤ} → u ≡ acted true o s → {z : ℕ} → z ≡ n → comes (bits_of u) (p + 1 + z) T ≡ leaves_at (op o n) s p T
+    leave-op e b eu ez =
+        (λ i. comes ((ap bits_of eu ∙ bits-kept o s b) i) (p + 1 + ez i) T)
+        ∙ sym (ap (λ (j : Judged). elim j [ fits js ↦ comes js (p + 1 + n) T | wrong ↦ ill ]) (typed-is true e))
 
-module _ (x : ℤ) (a : List ℤ) (h p : ℕ) (T : List Place) where
-  abbrev r : List ℤ
-  r = stack_of a h
+  module _ (x : ℤ) where
+    abbrev go : Judged → Places
+    go j = elim j [ fits js ↦ then_p (comes js (p + 1 + 1) T) (comes js (p + 1 + (1 + small_of x))) | wrong ↦ ill ]
 
-  abbrev go : Judged → Places
-  go j = elim j [ fits js ↦ then_p (comes js (p + 1 + 1) T) (comes js (p + 1 + (1 + small_of x))) | wrong ↦ ill ]
-
-  pub unless-low : h < 1 → ill ≡ leaves_at (unless (small_of x)) r p T
-  unfolding tested
-  unless-low lt = let l : length r < 1 = rw (stack-length a h) lt in sym (ap (λ (b : Bool). go (cond (b && same_z (value r 0) (pos 1)) (fits (drop 1 r)) wrong)) (lt-leb 1 (length r) l))
-
-  module _ (ge : 1 ≤ h) {u v : ℤ} {k : Bool} (k-is : k ≡ same_z u v) (u-is : u ≡ value r 0) (v-is : v ≡ pos 1) where
-    tested-is : (b : Bool) → k ≡ b → tested r ≡ cond b (fits (drop 1 r)) wrong
+    pub unless-wrong : tests s ≡ false → ill ≡ leaves_at (unless (small_of x)) s p T
     unfolding tested
-    tested-is b e =
-        let l : 1 ≤ length r = rw (stack-length a h) ge in
-        ap (λ (c : Bool). cond (c && same_z (value r 0) (pos 1)) (fits (drop 1 r)) wrong) (le-leb 1 (length r) l)
-        ∙ ap (λ (c : Bool). cond c (fits (drop 1 r)) wrong) (sym (k-is ∙ (λ i. same_z (u-is i) (v-is i))) ∙ e)
+    unless-wrong e = sym (ap (λ (b : Bool). go (cond b (fits (drop 1 s)) wrong)) e)
 
-    pub unless-kind : k ≡ false → ill ≡ leaves_at (unless (small_of x)) r p T
-    unless-kind e = sym (ap go (tested-is false e))
+    module _ (e : tests s ≡ true) (b : bits_of s ≡ s) {u : List ℤ} (u-is : u ≡ drop 1 s) where
+      tested-is : tested s ≡ fits (drop 1 s)
+      unfolding tested
+      tested-is = ap (λ (c : Bool). cond c (fits (drop 1 s)) wrong) e
 
-    module _ (e : k ≡ true) (b : bits_of r ≡ r) where
-      rest-is : bits_of (stack_of a (h - 1)) ≡ drop 1 r
-      rest-is = ap bits_of (sym (stack-drop a h 1)) ∙ (bits-drop 1 r ∙ ap (drop 1) b)
+      rest-is : bits_of u ≡ drop 1 s
+      rest-is = ap bits_of u-is ∙ (bits-drop 1 s ∙ ap (drop 1) b)
 
-      pub unless-paths : (c d : Bool) (T' T'' : List Place) → arrived c T' ≡ comes (bits_of (stack_of a (h - 1))) (p + 1 + 1) T → (j : ℕ) → j ≡ small_of x → (c ≡ true → arrived d T'' ≡ comes (bits_of (stack_of a (h - 1))) (p + 1 + (1 + j)) T') → cond c (arrived d T'') ill ≡ leaves_at (unless (small_of x)) r p T
+      pub unless-paths : (c d : Bool) (T' T'' : List Place) → arrived c T' ≡ comes (bits_of u) (p + 1 + 1) T → (j : ℕ) → j ≡ small_of x → (c ≡ true → arrived d T'' ≡ comes (bits_of u) (p + 1 + (1 + j)) T') → cond c (arrived d T'') ill ≡ leaves_at (unless (small_of x)) s p T
       unless-paths true d T' T'' f j ej g =
-          g refl ∙ ((λ i. then_p ((f ∙ ap (λ (l : List ℤ). comes l (p + 1 + 1) T) rest-is) i) (comes (rest-is i) (p + 1 + (1 + ej i)))) ∙ sym (ap go (tested-is true e)))
+          g refl ∙ ((λ i. then_p ((f ∙ ap (λ (l : List ℤ). comes l (p + 1 + 1) T) rest-is) i) (comes (rest-is i) (p + 1 + (1 + ej i)))) ∙ sym (ap go tested-is))
       unless-paths false d T' T'' f j ej g =
-          ap (λ (P : Places). then_p P (comes (drop 1 r) (p + 1 + (1 + small_of x)))) (f ∙ ap (λ (l : List ℤ). comes l (p + 1 + 1) T) rest-is) ∙ sym (ap go (tested-is true e))
+          ap (λ (P : Places). then_p P (comes (drop 1 s) (p + 1 + (1 + small_of x)))) (f ∙ ap (λ (l : List ℤ). comes l (p + 1 + 1) T) rest-is) ∙ sym (ap go tested-is)
 
 -- ---- from the whole table to the rest of it
 
@@ -198,14 +176,6 @@ leaves-from (unless k) ks p T = unless-from (tested ks) (p + 1) k T
 leaves-from (jump k) ks p T = comes-from ks (p + 1) (1 + k) T
 leaves-from none ks p T = refl
 
-width_is : (w : ℕ) (x y : ℤ) → (w ≡ 0 → ⊥) → width_of (item_by w x y) ≡ size_of w - 1
-width_is w x y m = by (eqb w 5) (eqb w 6) refl refl
-  where
-    by : (u v : Bool) → eqb w 5 ≡ u → eqb w 6 ≡ v → width_of (item_by w x y) ≡ size_of w - 1
-    by true v e f = let g : w ≡ 5 = eqb-true w 5 e in ap width_of (item-unless w x y g) ∙ ap (λ (n : ℕ). size_of n - 1) (sym g)
-    by false true e f = let g : w ≡ 6 = eqb-true w 6 f in ap width_of (item-jump w x y g) ∙ ap (λ (n : ℕ). size_of n - 1) (sym g)
-    by false false e f = ap width_of (item-op w x y m (eqb-false w 5 e) (eqb-false w 6 f))
-
 -- ---- one word
 
 module _ (ws : List ℤ) (t : List ℕ) (p : ℕ) (lt : p < length ws) where
@@ -226,52 +196,39 @@ module _ (ws : List ℤ) (t : List ℕ) (p : ℕ) (lt : p < length ws) where
   place_is : (c : ℕ) → head_at t p ≡ c → place_at t p ≡ place_by t p c
   place_is c e = ap (place_by t p) e
 
-  pub pass-free : (m : ℕ) → 0 < m → head_at t p ≡ 0 → passed m ws p T ≡ checks (drop p ws) m (at (drop p T))
+  pub pass-free : (m : ℕ) → 0 < m → head_at t p ≡ 0 → passed (Some (m - 1)) ws p T ≡ checks (drop p ws) m (at (drop p T))
   pass-free zero lm e = absurd (omega arith)
   pass-free (suc m) lm e =
-      (λ i. checks (sym (drop-drop 1 p ws) i) m (at (sym (drop-drop 1 p T) i)))
+      (let f : suc m - 1 ≡ m = omega arith in λ i. checks (sym (drop-drop 1 p ws) i) (f i) (at (sym (drop-drop 1 p T) i)))
       ∙ sym (mid-free (drop p ws) m (drop p T) more room (here ∙ place_is 0 e))
 
-  pub pass-met : (m : ℕ) → 0 < m → (c : ℕ) → head_at t p ≡ c → (c ≡ 0 → ⊥) → wrong ≡ checks (drop p ws) m (at (drop p T))
-  pass-met zero lm c e ne = absurd (omega arith)
-  pass-met (suc m) lm zero e ne = absurd (ne refl)
-  pass-met (suc m) lm (suc h) e ne = sym (mid-met (drop p ws) m (drop p T) (kinds_at t p h) more (here ∙ place_is (suc h) e))
+  pub pass-met : (m : ℕ) → 0 < m → (h : ℕ) → head_at t p ≡ h + 1 → wrong ≡ checks (drop p ws) m (at (drop p T))
+  pass-met zero lm h e = absurd (omega arith)
+  pass-met (suc m) lm h e = sym (mid-met (drop p ws) m (drop p T) (kinds_at t p h) more (here ∙ place_is (suc h) (e ∙ (let f : h + 1 ≡ suc h = omega arith in f))))
 
   pub pass-unmet : (m : ℕ) → m ≤ 0 → head_at t p ≡ 0 → wrong ≡ checks (drop p ws) m (at (drop p T))
   pass-unmet zero lm e = sym (turn-unmet (drop p ws) (drop p T) more (here ∙ place_is 0 e))
   pass-unmet (suc m) lm e = absurd (omega arith)
 
-  module _ (m : ℕ) (m-is : m ≤ 0) (c : ℕ) (c-is : head_at t p ≡ c) (some : c ≡ 0 → ⊥) where
-    go_on : (ks : List ℤ) → ks ≡ kinds_at t p (c - 1) → (i : Item) → i ≡ item_of (take (length ws - p) (drop p ws)) → checks (drop (p + 1) ws) (width_of i) (from_p (p + 1) (leaves_at i ks p T)) ≡ checks (drop p ws) m (at (drop p T))
-    go_on ks ek i ei =
+  -- a turn that reads the item i, where the kinds are ks
+  module _ (m : ℕ) (m-is : m ≤ 0) (h : ℕ) (h-is : head_at t p ≡ h + 1) {i : Item} (i-is : item_of (take (length ws - p) (drop p ws)) ≡ i) {ks : List ℤ} (ks-is : ks ≡ kinds_at t p h) where
+    go_on : checks (drop (p + 1) ws) (width_of i) (from_p (p + 1) (leaves_at i ks p T)) ≡ checks (drop p ws) m (at (drop p T))
+    go_on =
         let z : 0 ≡ m = omega arith in
-        let y : c ≡ suc (c - 1) = by c some in
-        let f : i ≡ item_of (drop p ws) = ei ∙ ap item_of (part-is ws p) in
+        let y : h + 1 ≡ suc h = omega arith in
+        let f : i ≡ item_of (drop p ws) = sym i-is ∙ ap item_of (part-is ws p) in
         ap (checks (drop (p + 1) ws) (width_of i)) (sym (leaves-from i ks p T))
-        ∙ ((λ j. checks (sym (drop-drop 1 p ws) j) (width_of (f j)) (leaves (f j) (ek j) (sym (drop-drop 1 p T) j)))
-        ∙ (sym (turn-checks (drop p ws) (drop p T) (kinds_at t p (c - 1)) more room (here ∙ (place_is c c-is ∙ ap (place_by t p) y)))
+        ∙ ((λ j. checks (sym (drop-drop 1 p ws) j) (width_of (f j)) (leaves (f j) (ks-is j) (sym (drop-drop 1 p T) j)))
+        ∙ (sym (turn-checks (drop p ws) (drop p T) (kinds_at t p h) more room (here ∙ place_is (suc h) (h-is ∙ y)))
         ∙ ap (λ (n : ℕ). checks (drop p ws) n (at (drop p T))) z))
-      where
-        by : (c : ℕ) → (c ≡ 0 → ⊥) → c ≡ suc (c - 1)
-        by zero ne = absurd (ne refl)
-        by (suc c) ne = omega arith
 
-    pub pass-none : (w : ℕ) → w ≡ 0 → w ≡ code_of (take (length ws - p) (drop p ws)) → wrong ≡ checks (drop p ws) m (at (drop p T))
-    pass-none w e ew =
-        sym (checks-ill (drop (p + 1) ws) 0)
-        ∙ go_on (kinds_at t p (c - 1)) refl none (sym (item-none w _ _ e) ∙ ap (λ (n : ℕ). item_by n (value (take (length ws - p) (drop p ws)) 1) (value (take (length ws - p) (drop p ws)) 2)) ew)
+    pub pass-ill : ill ≡ leaves_at i ks p T → wrong ≡ checks (drop p ws) m (at (drop p T))
+    pass-ill e = sym (checks-ill (drop (p + 1) ws) (width_of i)) ∙ (ap (λ (P : Places). checks (drop (p + 1) ws) (width_of i) (from_p (p + 1) P)) e ∙ go_on)
 
-    pub pass-ill : (w : ℕ) (x y : ℤ) → item_by w x y ≡ item_of (take (length ws - p) (drop p ws)) → (ks : List ℤ) → ks ≡ kinds_at t p (c - 1) → ill ≡ leaves_at (item_by w x y) ks p T → wrong ≡ checks (drop p ws) m (at (drop p T))
-    pass-ill w x y ei ks ek e =
-        sym (checks-ill (drop (p + 1) ws) (width_of (item_by w x y))) ∙ (ap (λ (P : Places). checks (drop (p + 1) ws) (width_of (item_by w x y)) (from_p (p + 1) P)) e ∙ go_on ks ek (item_by w x y) ei)
-
-    pub pass-item : (w : ℕ) (x y : ℤ) → (w ≡ 0 → ⊥) → item_by w x y ≡ item_of (take (length ws - p) (drop p ws)) → (ks : List ℤ) → ks ≡ kinds_at t p (c - 1) → (T' : List Place) → at T' ≡ leaves_at (item_by w x y) ks p T → (z : ℕ) → z ≡ size_of w → passed z ws p T' ≡ checks (drop p ws) m (at (drop p T))
-    pass-item w x y ne ei ks ek T' e z ez =
-        let q : 1 ≤ size_of w = size-pos w in
-        let s : z ≡ suc (size_of w - 1) = omega arith in
-        ap (λ (n : ℕ). passed n ws p T') s
-        ∙ (ap (λ (n : ℕ). checks (drop (p + 1) ws) n (at (drop (p + 1) T'))) (sym (width_is w x y ne))
-        ∙ (ap (λ (P : Places). checks (drop (p + 1) ws) (width_of (item_by w x y)) (from_p (p + 1) P)) e ∙ go_on ks ek (item_by w x y) ei))
+    pub pass-item : {T' : List Place} → at T' ≡ leaves_at i ks p T → {z : ℕ} → z ≡ width_of i → passed (Some z) ws p T' ≡ checks (drop p ws) m (at (drop p T))
+    pass-item {T'} e {z} ez =
+        ap (λ (n : ℕ). checks (drop (p + 1) ws) n (at (drop (p + 1) T'))) ez
+        ∙ (ap (λ (P : Places). checks (drop (p + 1) ws) (width_of i) (from_p (p + 1) P)) e ∙ go_on)
 
 -- ---- the end
 
@@ -293,16 +250,15 @@ module _ (ws : List ℤ) (t : List ℕ) (p m : ℕ) (end : p ≡ length ws) wher
       by zero lt = absurd (omega arith)
       by (suc m) lt = refl
 
-  pub end_is : m ≤ 0 → (c : ℕ) → head_at t p ≡ c → verdict c t (length ws) ≡ checks (drop p ws) m (at (drop p (places_from t 0 (length ws + 1))))
+  end_by : m ≤ 0 → (c : ℕ) → head_at t p ≡ c → ends (place_by t (length ws) c ∷ []) ≡ checks (drop p ws) m (at (drop p (places_from t 0 (length ws + 1))))
   unfolding checks
-  end_is le c e =
+  end_by le c e =
       let l : length ws ≤ p = omega arith in
       let z : 0 ≡ m = omega arith in
-      by c
-      ∙ ((λ i. ends (place_by t (sym end i) (sym e i) ∷ []))
+      (λ i. ends (place_by t (sym end i) (sym e i) ∷ []))
       ∙ (ap ends (sym (ap (λ (n : ℕ). drop p (places_from t 0 (n + 1))) (sym end) ∙ (last-place t 0 p ∙ ap (λ (n : ℕ). place_at t n ∷ []) (let g : 0 + p ≡ p = omega arith in g))))
-      ∙ ((λ i. checks (sym (drop_of_length-le ws l) i) 0 (at (drop p (places_from t 0 (length ws + 1))))) ∙ ap (λ (n : ℕ). checks (drop p ws) n (at (drop p (places_from t 0 (length ws + 1))))) z)))
-    where
-      by : (c : ℕ) → verdict c t (length ws) ≡ ends (place_by t (length ws) c ∷ [])
-      by zero = refl
-      by (suc h) = refl
+      ∙ ((λ i. checks (sym (drop_of_length-le ws l) i) 0 (at (drop p (places_from t 0 (length ws + 1))))) ∙ ap (λ (n : ℕ). checks (drop p ws) n (at (drop p (places_from t 0 (length ws + 1))))) z))
+
+  pub end_is : m ≤ 0 → (r : Option ℕ) → MatchOption r (head_at t (length ws) ≡ 0) (λ h. head_at t (length ws) ≡ h + 1) → verdict r t (length ws) ≡ checks (drop p ws) m (at (drop p (places_from t 0 (length ws + 1))))
+  end_is le None e = end_by le 0 (ap (head_at t) end ∙ e)
+  end_is le (Some h) e = end_by le (suc h) (ap (head_at t) end ∙ e ∙ (let f : h + 1 ≡ suc h = omega arith in f))

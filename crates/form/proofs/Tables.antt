@@ -6,15 +6,15 @@ use Prim.Native.Nat.{ℕ, zero, suc, ◌+◌, ◌-◌, ◌*◌, ◌/◌, ◌%◌
 use native.Mathlib.Omega.{arith}
 use lib.IntN.{ℤ, pos}
 use lib.Dec.{eqb, leb}
-use lib.ListN.{length, get_or, set, length-set}
+use lib.ListN.{length, get_or, set, drop, drop_of_length-le, length-set}
 use lib.Seq.{get_or-set_same, get_or-set_other}
-use borrow.Author.Tests.{leb-true, leb-false, eqb-true, eqb-false}
-use Rattle.stack.specs.Stack.{truth, same_z, same_kinds}
+use borrow.Author.Tests.{lt-ltb, leb-false, eqb-true, eqb-false}
+use Rattle.stack.specs.Stack.{pushed, truth, same_z, same_kinds}
+use Rattle.fixed.specs.Values.{value}
 use Rattle.stack.specs.Memory.{stack_of}
 use Rattle.stack.specs.Operators.{is_true}
 use Rattle.form.specs.Paths.{Place, unmet, met, at, ill, comes}
 use Rattle.form.specs.Table.{kinds_up, low_part, kinds_by, first_at, second_at, head_at, kinds_at, place_of, place_by, place_at, places_from, Low, But, bits_of, Stored, arrived}
-use Rattle.stack.proofs.Stacks.{stack_push, stack-length}
 use Rattle.form.proofs.Turns.{comes-past, comes-new, comes-old}
 
 pub place-but : (q : ℕ) (t t' : List ℕ) → But q t t' → (p : ℕ) → (p ≡ q → ⊥) → place_at t' p ≡ place_at t p
@@ -61,20 +61,6 @@ part-le h = by (leb h 50) refl
     by : (b : Bool) → leb h 50 ≡ b → cond b h 50 ≤ h
     by true e = omega arith
     by false e = omega (arith, leb-false h 50 e)
-
-pub part_low : (h : ℕ) → low_part h ≤ 50
-part_low h = by (leb h 50) refl
-  where
-    by : (b : Bool) → leb h 50 ≡ b → cond b h 50 ≤ 50
-    by true e = omega (arith, leb-true h 50 e)
-    by false e = omega arith
-
-pub part-rest : (h : ℕ) → h ≤ 100 → h ≤ low_part h + 50
-part-rest h le = by (leb h 50) refl
-  where
-    by : (b : Bool) → leb h 50 ≡ b → h ≤ cond b h 50 + 50
-    by true e = omega arith
-    by false e = omega arith
 
 module _ (t : List ℕ) (q h x y : ℕ) (a : List ℤ) (room : 2 * q + 2 ≤ length t) (low : h ≤ 100) where
   abbrev v : ℕ
@@ -161,29 +147,18 @@ pub up_none : (v n : ℕ) (ks : List ℤ) → n ≡ 0 → kinds_up v n ks ≡ ks
 unfolding kinds_up
 up_none v n ks e = ap (λ (k : ℕ). kinds_up v k ks) e
 
-pub unpack-turn : (a : List ℤ) (to i v : ℕ) (x : ℤ) {ks : List ℤ} → i < to → i < length a → x ≡ truth (eqb (v % 2) 1) → kinds_up v (to - i) (stack_of a i) ≡ ks → kinds_up (v / 2) (to - (i + 1)) (stack_of (set a i x) (i + 1)) ≡ ks
-unfolding kinds_up
-unpack-turn a to i v x lt room ex inv =
-    let e : suc (to - (i + 1)) ≡ to - i = omega arith in
-    let y : i + 1 ≡ suc i = omega arith in
-    ap (kinds_up (v / 2) (to - (i + 1))) (ap (stack_of (set a i x)) y ∙ (stack_push a i x room ∙ ap (λ (z : ℤ). z ∷ stack_of a i) ex))
-    ∙ (ap (λ (n : ℕ). kinds_up v n (stack_of a i)) e ∙ inv)
+pub pushed-length : (x : ℤ) (s : List ℤ) → length s < 100 → length (pushed x s) ≡ length s + 1
+unfolding pushed
+pushed-length x s room = simp (lt-ltb (length s) 100 room) (let e : suc (length s) ≡ length s + 1 = omega arith in e)
 
-pub loaded : (a a₁ a₂ : List ℤ) (x y h m : ℕ) → m ≡ low_part h → stack_of a₁ m ≡ kinds_up (x / 128) (m - 0) (stack_of a 0) → stack_of a₂ h ≡ kinds_up y (h - m) (stack_of a₁ m) → stack_of a₂ h ≡ kinds_by x y h
-unfolding kinds_by stack_of
-loaded a a₁ a₂ x y h m em e₁ e₂ =
-    let z : m - 0 ≡ m = omega arith in
-    e₂ ∙ (ap (kinds_up y (h - m)) (e₁ ∙ ap (λ (n : ℕ). kinds_up (x / 128) n []) z) ∙ (λ i. kinds_up y (h - em i) (kinds_up (x / 128) (em i) [])))
+pub unpack-turn : (s : List ℤ) (n i v : ℕ) (x : ℤ) {t ks : List ℤ} → i < n → length s < 100 → x ≡ truth (eqb (v % 2) 1) → t ≡ pushed x s → kinds_up v (n - i) s ≡ ks → kinds_up (v / 2) (n - (i + 1)) t ≡ ks
+unfolding kinds_up pushed
+unpack-turn s n i v x lt room ex et inv =
+    let e : suc (n - (i + 1)) ≡ n - i = omega arith in
+    ap (kinds_up (v / 2) (n - (i + 1))) (et ∙ (simp (lt-ltb (length s) 100 room) (ap (λ (z : ℤ). z ∷ s) ex)))
+    ∙ (ap (λ (n : ℕ). kinds_up v n s) e ∙ inv)
 
 -- ---- two stacks compared, from the top down
-
-same_turn : (i k : ℕ) (a b : List ℤ) → i ≡ k + 1 → same_kinds (bits_of (stack_of a i)) (stack_of b i) ≡ (same_z (truth (is_true (get_or a k (pos 0)))) (get_or b k (pos 0)) && same_kinds (bits_of (stack_of a k)) (stack_of b k))
-unfolding bits_of stack_of same_kinds
-same_turn i k a b e = let y : k + 1 ≡ suc k = omega arith in ap (λ (n : ℕ). same_kinds (bits_of (stack_of a n)) (stack_of b n)) (e ∙ y)
-
-pub same_none : (a b : List ℤ) (i : ℕ) → i ≡ 0 → true ≡ same_kinds (bits_of (stack_of a i)) (stack_of b i)
-unfolding bits_of stack_of same_kinds
-same_none a b i e = ap (λ (n : ℕ). same_kinds (bits_of (stack_of a n)) (stack_of b n)) (sym e)
 
 pub same-long : (x y : List ℤ) → (length x ≡ length y → ⊥) → same_kinds x y ≡ false
 unfolding same_kinds
@@ -196,12 +171,12 @@ same-long (x ∷ xs) (y ∷ ys) ne = ap (λ (t : Bool). same_z x y && t) (same-l
     and-false true = refl
     and-false false = refl
 
-bits-length : (s : List ℤ) → length (bits_of s) ≡ length s
+pub bits-length : (s : List ℤ) → length (bits_of s) ≡ length s
 unfolding bits_of
 bits-length [] = refl
 bits-length (x ∷ xs) = ap suc (bits-length xs)
 
-up-length : (v n : ℕ) (ks : List ℤ) → length (kinds_up v n ks) ≡ n + length ks
+pub up-length : (v n : ℕ) (ks : List ℤ) → length (kinds_up v n ks) ≡ n + length ks
 unfolding kinds_up
 up-length v zero ks = let e : length ks ≡ 0 + length ks = omega arith in e
 up-length v (suc n) ks = up-length (v / 2) n (truth (eqb (v % 2) 1) ∷ ks) ∙ (let e : n + suc (length ks) ≡ suc n + length ks = omega arith in e)
@@ -216,9 +191,9 @@ by_length x y h =
 pub kinds-length : (t : List ℕ) (q h : ℕ) → length (kinds_at t q h) ≡ h
 kinds-length t q h = by_length (first_at t q) (second_at t q) h
 
-pub same-high : (t : List ℕ) (q h g : ℕ) (a : List ℤ) → (g ≡ h → ⊥) → same_kinds (bits_of (stack_of a h)) (kinds_at t q g) ≡ false
-same-high t q h g a ne =
-    same-long (bits_of (stack_of a h)) (kinds_at t q g) (λ e. ne (sym (kinds-length t q g) ∙ (sym e ∙ (bits-length (stack_of a h) ∙ stack-length a h))))
+pub same-high : (t : List ℕ) (q g : ℕ) (s : List ℤ) → (g ≡ length s → ⊥) → same_kinds (bits_of s) (kinds_at t q g) ≡ false
+same-high t q g s ne =
+    same-long (bits_of s) (kinds_at t q g) (λ e. ne (sym (kinds-length t q g) ∙ (sym e ∙ bits-length s)))
 
 -- ---- a path that comes
 
@@ -249,14 +224,19 @@ low-stored t t' q ks s low p = by (eqb p q) refl
     by true e = rw (eqb-true p q e) s.low
     by false e = let f : head_at t' p ≡ head_at t p = ap (λ (n : ℕ). n % 128) (s.but p (eqb-false p q e)).0 in omega (arith, low p)
 
-module _ (h i : ℕ) (a b : List ℤ) (some : 0 < i) {x y : ℤ} {s : Bool} (s-is : s ≡ same_z x y) (x-is : x ≡ truth (is_true (get_or a (i - 1) (pos 0)))) (y-is : y ≡ get_or b (i - 1) (pos 0)) (same-i : same_kinds (bits_of (stack_of a i)) (stack_of b i) ≡ same_kinds (bits_of (stack_of a h)) (stack_of b h)) where
-  step_down : (s && same_kinds (bits_of (stack_of a (i - 1))) (stack_of b (i - 1))) ≡ same_kinds (bits_of (stack_of a h)) (stack_of b h)
-  step_down =
-      ap (λ (q : Bool). q && same_kinds (bits_of (stack_of a (i - 1))) (stack_of b (i - 1))) (s-is ∙ (λ j. same_z (x-is j) (y-is j)))
-      ∙ (sym (same_turn i (i - 1) a b (omega arith)) ∙ same-i)
+-- one more of the top n + 1 compared
+pub same-step : (a b : List ℤ) (n : ℕ) → length a ≡ length b → n < length a → same_kinds (bits_of (drop n a)) (drop n b) ≡ (same_z (truth (is_true (value a n))) (value b n) && same_kinds (bits_of (drop (n + 1) a)) (drop (n + 1) b))
+unfolding bits_of same_kinds
+same-step [] b n e lt = absurd (omega arith)
+same-step (x ∷ xs) [] n e lt = absurd (omega arith)
+same-step (x ∷ xs) (y ∷ ys) zero e lt = refl
+same-step (x ∷ xs) (y ∷ ys) (suc n) e lt =
+    let f : length xs ≡ length ys = omega arith in
+    let g : n < length xs = omega arith in
+    same-step xs ys n f g ∙ ap (λ (k : ℕ). same_z (truth (is_true (value xs n))) (value ys n) && same_kinds (bits_of (drop k (x ∷ xs))) (drop k (y ∷ ys))) (let h : suc (n + 1) ≡ suc n + 1 = omega arith in h)
 
-  pub same-goes : s ≡ true → same_kinds (bits_of (stack_of a (i - 1))) (stack_of b (i - 1)) ≡ same_kinds (bits_of (stack_of a h)) (stack_of b h)
-  same-goes e = ap (λ (q : Bool). q && same_kinds (bits_of (stack_of a (i - 1))) (stack_of b (i - 1))) (sym e) ∙ step_down
-
-  pub same-stops : s ≡ false → false ≡ same_kinds (bits_of (stack_of a h)) (stack_of b h)
-  same-stops e = ap (λ (q : Bool). q && same_kinds (bits_of (stack_of a (i - 1))) (stack_of b (i - 1))) (sym e) ∙ step_down
+pub same_all : (a b : List ℤ) (n : ℕ) → length a ≡ length b → length a ≤ n → true ≡ same_kinds (bits_of (drop n a)) (drop n b)
+unfolding bits_of same_kinds
+same_all a b n e le =
+    let m : length b ≤ n = omega arith in
+    sym ((λ i. same_kinds (bits_of (drop_of_length-le a le i)) (drop_of_length-le b m i)))

@@ -1,6 +1,6 @@
 -- The checker's table: one slice, two words of 64 bits for each place. The first has the place's height and 1 more in its lowest 7 bits (0: no path came yet) and over
 -- them the kinds of its 50 deepest values, the second the kinds of those above; of either the deepest is the lowest bit.
-use Rattle.std.specs.Prelude.{◌≡◌, Bool, true, false, cond, List, [], ◌∷◌, ℕ, zero, suc, ◌+◌, ◌*◌, ◌-◌, ◌/◌, ◌%◌, ◌≤◌, ℤ, eqb, leb, length, get_or, drop}
+use Rattle.std.specs.Prelude.{◌≡◌, Bool, Option, None, Some, true, false, cond, List, [], ◌∷◌, ℕ, zero, suc, ◌+◌, ◌*◌, ◌-◌, ◌/◌, ◌%◌, ◌≤◌, ℤ, eqb, leb, length, get_or, drop}
 use Rattle.stack.specs.Stack.{truth}
 use Rattle.stack.specs.Operators.{is_true}
 use Rattle.stack.specs.Judging.{Judged, fits, wrong, typed, tested}
@@ -86,12 +86,12 @@ leaves_at (unless k) ks p ps = elim (tested ks) [ fits js ↦ then_p (comes js (
 leaves_at (jump k) ks p ps = comes ks (p + 1 + (1 + k)) ps
 leaves_at none ks p ps = ill
 
--- a turn at p of words that have n places: r is 0 where it is wrong, else one more than the words of the item that follow
-abbrev pub passed : ℕ → List ℤ → ℕ → List Place → Judged
-passed zero ws p ps = wrong
-passed (suc m) ws p ps = checks (drop (p + 1) ws) m (at (drop (p + 1) ps))
+-- a turn at p of words that have n places: how many words of the item follow, none where it is wrong
+abbrev pub passed : Option ℕ → List ℤ → ℕ → List Place → Judged
+passed None ws p ps = wrong
+passed (Some m) ws p ps = checks (drop (p + 1) ws) m (at (drop (p + 1) ps))
 
--- r is 0 where it is wrong, else one more than the height at place p
-abbrev pub verdict : ℕ → List ℕ → ℕ → Judged
-verdict zero t p = wrong
-verdict (suc h) t p = fits (kinds_at t p h)
+-- the height at place p, none where it is wrong
+abbrev pub verdict : Option ℕ → List ℕ → ℕ → Judged
+verdict None t p = wrong
+verdict (Some h) t p = fits (kinds_at t p h)

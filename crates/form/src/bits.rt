@@ -1,56 +1,48 @@
 // Kinds as bits.
 ghost use Rattle.std.specs.Prelude.{◌≡◌, ◌≤◌, ◌<◌, ◌+◌, ◌-◌, eqb, length};
-ghost use Rattle.stack.specs.Stack.{truth};
+ghost use Rattle.stack.specs.Stack.{most, truth};
 ghost use Rattle.stack.specs.Operators.{is_true};
 ghost use Rattle.stack.specs.Memory.{stack_of};
 ghost use Rattle.form.specs.Table.{kinds_up, low_part, bits_of};
 
-use stack::truth;
+use stack::{Stack, truth};
 
 // A kind as a bit.
 fn kind_bit(x: i32) -> u64
     ensures is { truth (eqb result 1) ≡ truth (is_true x) }
     ensures low { result ≤ 1 }
 {
-    if 0 < x { 1 } else { 0 }
+    u64::from(x > 0)
 }
 
 // Of h kinds those in the first word.
 pub fn low_part(h: usize) -> usize
     ensures { result ≡ low_part h }
 {
-    if h <= 50 { h } else { 50 }
+    h.min(50)
 }
 
-// The kinds from..to of the stack in bits.
-pub fn packed(a: &[i32], from: usize, to: usize) -> u64
-    requires { (from ≤ to) × (to ≤ from + 50) × (to ≤ length a.now) }
-    ensures is { kinds_up result (to - from) (bits_of (stack_of a.now from)) ≡ bits_of (stack_of a.now to) }
+// The kinds from..to of a stack in bits, where the deepest stands first.
+pub fn packed(kinds: &[i32], from: usize, to: usize) -> u64
+    requires { (from ≤ to) × (to ≤ from + 50) × (to ≤ length kinds.now) }
+    ensures is { kinds_up result (to - from) (bits_of (stack_of kinds.now from)) ≡ bits_of (stack_of kinds.now to) }
     ensures low { result < 1125899906842624 }
 {
-    let mut v: u64 = 0;
-    let mut i = to;
-    while from < i {
-        let k = i - 1;
-        let x = a[k];
-        let b = kind_bit(x);
-        v = 2 * v + b;
-        i = k;
+    let mut bits: u64 = 0;
+    for i in (from..to).rev() {
+        bits = 2 * bits + kind_bit(kinds[i]);
     }
-    v
+    bits
 }
 
-// The kinds in bits on the stack, from..to.
-pub fn unpack(bits: u64, a: &mut [i32], from: usize, to: usize)
-    requires { (from ≤ to) × (to ≤ length a.old) }
-    ensures { stack_of a.new to ≡ kinds_up bits (to - from) (stack_of a.old from) }
+// n kinds in bits, on top of the stack.
+pub fn unpack(bits: u64, n: usize, stack: &mut Stack)
+    requires { length stack.old + n ≤ most }
+    ensures { stack.new ≡ kinds_up bits n stack.old }
 {
-    let mut v = bits;
-    let mut i = from;
-    while i < to {
-        let x = truth(v % 2 == 1);
-        a[i] = x;
-        v = v / 2;
-        i += 1;
+    let mut rest = bits;
+    for i in 0..n {
+        stack.push(truth(rest % 2 == 1));
+        rest /= 2;
     }
 }

@@ -24,7 +24,8 @@ pub enum Tints {
 // The most words of a flat form: a recipe has room for no more.
 pub const WORDS: usize = LONGEST - 4;
 
-// The words of the checker's table: two for each word of a form, and two for its end. The table for as many as a form may have, and that for a program that a page can have.
+// The words of the checker's table: two for each word of a form, and two for its end. The table for as many as a form may have, and that for a program that a
+// page can have.
 const TABLE: usize = 2 * (WORDS + 1);
 
 const FLAT_TABLE: usize = 2 * (FLAT + 1);

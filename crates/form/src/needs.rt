@@ -1,124 +1,52 @@
-// What an operator asks of the stack, by its word.
-ghost use Rattle.std.specs.Prelude.{◌≡◌, ◌≤◌, length};
-ghost use Rattle.stack.specs.Stack.{most};
+// What an operator asks of the stack.
+ghost use Rattle.std.specs.Prelude.{◌≡◌, ◌≤◌};
 ghost use Rattle.stack.specs.Judging.{wants, grows, kindly, fine};
-ghost use Rattle.stack.specs.Flat.{plain_by, op_by};
-ghost use Rattle.stack.specs.Memory.{stack_of};
+ghost use Rattle.stack.specs.Meant.{op_meant};
 
-use crate::table::same_kind;
-use stack::{MOST, one_kind, small, takes, value_at};
-
-// How high the stack must be for an operator of one word.
-fn plain_needs(w: usize) -> usize
-    ensures is { result ≡ wants (plain_by w) }
-    ensures low { result ≤ 2 }
-{
-    if w < 18 {
-        return 2;
-    }
-    if w < 21 {
-        return 1;
-    }
-    if w < 23 {
-        return 0;
-    }
-    if w == 23 {
-        return 1;
-    }
-    if w == 24 {
-        return 2;
-    }
-    1
-}
-
-// How much higher it gets.
-fn plain_grows(w: usize) -> usize
-    ensures is { result ≡ grows (plain_by w) }
-    ensures low { result ≤ 1 }
-{
-    if w < 18 {
-        return 0;
-    }
-    if w < 21 {
-        return 0;
-    }
-    if w < 23 {
-        return 1;
-    }
-    if w == 23 {
-        return 0;
-    }
-    if w == 24 {
-        return 0;
-    }
-    1
-}
+use stack::{MOST, Op, Stack, small};
 
 // How high the stack must be.
-fn needed(w: usize, x: i32, y: i32) -> usize
-    ensures { result ≡ wants (op_by w x y) }
+fn needed(op: Op) -> usize
+    ensures { result ≡ wants (op_meant op) }
 {
-    match w {
-        1 => 0,
-        2 => small(x),
-        3 => small(x) + 1,
-        4 => small(x),
-        _ => plain_needs(w),
+    match op {
+        Op::Number(_) | Op::Constant(_) => 0,
+        Op::Copy(n) => small(n),
+        Op::Index(n) => small(n) + 1,
+        Op::Roll(n, _) => small(n),
+        Op::Two(_) | Op::Exch => 2,
+        Op::One(_) | Op::Pop | Op::Dup => 1,
     }
 }
 
 // How much higher it gets.
-fn growth(w: usize, x: i32, y: i32) -> usize
-    ensures is { result ≡ grows (op_by w x y) }
+fn growth(op: Op) -> usize
+    ensures is { result ≡ grows (op_meant op) }
     ensures low { result ≤ 4294967295 }
 {
-    match w {
-        1 => 1,
-        2 => small(x),
-        3 => 1,
-        4 => 0,
-        _ => plain_grows(w),
+    match op {
+        Op::Number(_) | Op::Index(_) | Op::Constant(_) | Op::Dup => 1,
+        Op::Copy(n) => small(n),
+        Op::Roll(..) | Op::Two(_) | Op::One(_) | Op::Pop | Op::Exch => 0,
     }
 }
 
 // Are the kinds of its operands right?
-fn plain_kindly(w: usize, a: &[i32], h: usize) -> bool
-    requires { h ≤ length a.now }
-    ensures { result ≡ kindly (plain_by w) (stack_of a.now h) }
+fn kindly(op: Op, stack: &Stack) -> bool
+    ensures { result ≡ kindly (op_meant op) stack.now }
 {
-    let u = value_at(a, h, 0);
-    if w < 18 {
-        let v = value_at(a, h, 1);
-        let k = takes(w);
-        return same_kind(u, k) & same_kind(v, k);
-    }
-    if w < 21 {
-        return same_kind(u, one_kind(w));
-    }
-    true
-}
-
-// Are the operands' kinds right?
-fn kindly(w: usize, x: i32, y: i32, a: &[i32], h: usize) -> bool
-    requires { h ≤ length a.now }
-    ensures { result ≡ kindly (op_by w x y) (stack_of a.now h) }
-{
-    match w {
-        1 => true,
-        2 => true,
-        3 => true,
-        4 => true,
-        _ => plain_kindly(w, a, h),
+    match op {
+        Op::Two(two) => stack.value_at(0) == two.takes() && stack.value_at(1) == two.takes(),
+        Op::One(one) => stack.value_at(0) == one.kind(),
+        _ => true,
     }
 }
 
 // Can the operator act on a stack of these kinds?
-pub fn fine(w: usize, x: i32, y: i32, a: &[i32], h: usize) -> bool
-    requires { (h ≤ most) × (h ≤ length a.now) }
-    ensures { result ≡ fine (op_by w x y) (stack_of a.now h) }
+#[tactic(auto, unfolding(stack::specs::Judging::fine))]
+pub fn fine(op: Op, stack: &Stack) -> bool
+    ensures { result ≡ fine (op_meant op) stack.now }
 {
-    let n = needed(w, x, y);
-    let g = growth(w, x, y);
-    let k = kindly(w, x, y, a, h);
-    (n <= h) & ((h + g <= MOST) & k)
+    let h = stack.height();
+    needed(op) <= h && h + growth(op) <= MOST && kindly(op, stack)
 }

@@ -1,5 +1,5 @@
-// A flat form that stands among a recipe's words. By its hint the function stays one of its own when it is compiled: the checker's table takes memory only while
-// a step 12 or 13 is checked, and none in a recipe without one.
+// A flat form that stands among a recipe's words. By its hint the function stays one of its own when it is compiled: the checker's table takes memory only
+// while a step 12 or 13 is checked, and none in a recipe without one.
 ghost use Rattle.std.specs.Prelude.{◌≡◌};
 ghost use Rattle.form.specs.Steps.{form_at};
 
@@ -10,15 +10,8 @@ use crate::checking::is_form;
 pub fn is_form_at(words: &[i32], at: usize, n: usize, taken: usize, count: usize) -> bool
     ensures { result ≡ form_at words.now at n taken count }
 {
-    let size = words.len();
-    if size < at {
+    if words.len() < at || words.len() - at < n {
         return false;
     }
-    if size - at < n {
-        return false;
-    }
-    if n < size - at {
-        return is_form_at(&words[0..at + n], at, n, taken, count);
-    }
-    is_form(&words[at..], taken, count)
+    is_form(&words[at..at + n], taken, count)
 }

@@ -1,98 +1,93 @@
 // The table of places: two words for each, and what paths bring to them.
-ghost use Rattle.std.specs.Prelude.{◌≡◌, ◌≤◌, ◌+◌, ◌*◌, length};
+ghost use Rattle.std.specs.Prelude.{◌≡◌, ◌≤◌, ◌+◌, ◌*◌, length, MatchOption};
 ghost use Rattle.stack.specs.Stack.{most, same_z, same_kinds};
-ghost use Rattle.stack.specs.Memory.{stack_of};
 ghost use Rattle.form.specs.Table.{head_at, kinds_at, places_from, Low, bits_of, Stored, arrived};
 ghost use Rattle.form.specs.Paths.{comes};
 
 use crate::bits::{low_part, packed, unpack};
-use stack::{MOST, truth};
+use stack::{Stack, truth};
 
-// One more than the height at place p, 0 where no path came yet.
-pub fn head(t: &[u64], p: usize) -> usize
+// The height at place p, none where no path came yet.
+pub fn head(t: &[u64], p: usize) -> Option<usize>
     requires { 2 * p + 2 ≤ length t.now }
-    ensures { result ≡ head_at t.now p }
+    ensures { MatchOption result (head_at t.now p ≡ 0) (λ h. head_at t.now p ≡ h + 1) }
 {
-    (t[2 * p] % 128) as usize
+    ((t[2 * p] % 128) as usize).checked_sub(1)
 }
 
-// The h kinds of row p, on the stack.
-pub fn load(t: &[u64], p: usize, h: usize, a: &mut [i32])
-    requires { (h ≤ most) × (most ≤ length a.old) × (2 * p + 2 ≤ length t.now) }
-    ensures { stack_of a.new h ≡ kinds_at t.now p h }
+// The h kinds of row p, as the stack.
+#[tactic(auto, unfolding(crate::specs::Table::kinds_by))]
+pub fn load(t: &[u64], p: usize, h: usize, stack: &mut Stack)
+    requires { (h ≤ most) × (2 * p + 2 ≤ length t.now) }
+    ensures { stack.new ≡ kinds_at t.now p h }
 {
     let m = low_part(h);
-    let x = t[2 * p];
-    let y = t[2 * p + 1];
-    unpack(x / 128, a, 0, m);
-    unpack(y, a, m, h);
+    stack.clear();
+    unpack(t[2 * p] / 128, m, stack);
+    unpack(t[2 * p + 1], h - m, stack);
 }
 
 // The stack's kinds in row q.
-fn store(t: &mut [u64], q: usize, a: &[i32], h: usize)
-    requires { (h ≤ most) × (most ≤ length a.now) × (2 * q + 2 ≤ length t.old) }
-    ensures { Stored t.old t.new q (bits_of (stack_of a.now h)) }
+fn store(t: &mut [u64], q: usize, stack: &Stack)
+    requires { 2 * q + 2 ≤ length t.old }
+    ensures { Stored t.old t.new q (bits_of stack.now) }
 {
+    let kinds = stack.values();
+    let h = kinds.len();
     let m = low_part(h);
-    let x = packed(a, 0, m);
-    let y = packed(a, m, h);
+    let x = packed(kinds, 0, m);
+    let y = packed(kinds, m, h);
     t[2 * q] = x * 128 + (h as u64 + 1);
     t[2 * q + 1] = y;
 }
 
 // Are two kinds the same?
-pub fn same_kind(x: i32, y: i32) -> bool
+fn same_kind(x: i32, y: i32) -> bool
     ensures { result ≡ same_z x y }
 {
-    (x <= y) & (y <= x)
+    x == y
 }
 
-// Are the h kinds of a those of b?
-pub fn alike(a: &[i32], b: &[i32], h: usize) -> bool
-    requires { (h ≤ length a.now) × (h ≤ length b.now) }
-    ensures { result ≡ same_kinds (bits_of (stack_of a.now h)) (stack_of b.now h) }
+// Are the kinds of a those of b?
+pub fn alike(a: &Stack, b: &Stack) -> bool
+    ensures { result ≡ same_kinds (bits_of a.now) b.now }
 {
-    let mut i = h;
-    while 0 < i {
-        let k = i - 1;
-        let z = a[k];
-        let x = truth(0 < z);
-        let y = b[k];
-        if same_kind(x, y) {
-            i = k;
-        } else {
+    if a.height() != b.height() {
+        return false;
+    }
+    for n in 0..a.height() {
+        if !same_kind(truth(a.value_at(n) > 0), b.value_at(n)) {
             return false;
         }
     }
     true
 }
 
-// Are the h kinds of row q those of the stack?
-fn same(t: &[u64], q: usize, a: &[i32], h: usize) -> bool
-    requires { (h ≤ most) × (most ≤ length a.now) × (2 * q + 2 ≤ length t.now) }
-    ensures { result ≡ same_kinds (bits_of (stack_of a.now h)) (kinds_at t.now q h) }
+// Are the kinds of row q, as many as the stack has, those of the stack?
+fn same(t: &[u64], q: usize, stack: &Stack) -> bool
+    requires { 2 * q + 2 ≤ length t.now }
+    ensures { result ≡ same_kinds (bits_of stack.now) (kinds_at t.now q (length stack.now)) }
 {
-    let mut b = [0i32; MOST];
-    load(t, q, h, &mut b);
-    alike(a, &b, h)
+    let mut row = Stack::new();
+    load(t, q, stack.height(), &mut row);
+    alike(stack, &row)
 }
 
 // A path comes with the stack's kinds to place q of n.
-pub fn arrive(t: &mut [u64], n: usize, q: usize, a: &[i32], h: usize) -> bool
-    requires { (h ≤ most) × (most ≤ length a.now) × (2 * n ≤ length t.old) × Low t.old }
-    ensures is { arrived result (places_from t.new 0 n) ≡ comes (bits_of (stack_of a.now h)) q (places_from t.old 0 n) }
+pub fn arrive(t: &mut [u64], n: usize, q: usize, stack: &Stack) -> bool
+    requires { (2 * n ≤ length t.old) × Low t.old }
+    ensures is { arrived result (places_from t.new 0 n) ≡ comes (bits_of stack.now) q (places_from t.old 0 n) }
     ensures low { Low t.new }
 {
     if n <= q {
         return false;
     }
-    let c = head(t, q);
-    if c == 0 {
-        store(t, q, a, h);
-        return true;
+    match head(t, q) {
+        None => {
+            store(t, q, stack);
+            true
+        }
+        Some(h) if h == stack.height() => same(t, q, stack),
+        Some(_) => false,
     }
-    if c == h + 1 {
-        return same(t, q, a, h);
-    }
-    false
 }

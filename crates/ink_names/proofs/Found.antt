@@ -6,6 +6,7 @@ use mathlib.Core.List.{List}
 use Prim.Native.Nat.{ℕ, ◌/◌, ◌<◌}
 use native.Mathlib.Omega.{arith}
 use lib.ListN.{length}
+use Rattle.std.specs.Prelude.{Option, Some, None}
 use Rattle.fixed.proofs.Scans.{first-none}
 use Rattle.page.specs.Outcomes.{Outcome, accepted, refused}
 use Rattle.page.specs.Validation.{validated}
@@ -13,8 +14,6 @@ use Rattle.ink_names.specs.Replies.{Page, jobs, houses, neither, Reply, found, r
 use Rattle.ink_names.specs.Names.{ink_at}
 use Rattle.ink_names.specs.Search.{lowest, either, on_accepted, found_ink}
 use Rattle.ink_names.specs.Laws.{Accepted}
-use Rattle.ink_names.specs.declared.search.Place.{Place}
-use Rattle.ink_names.specs.declared.search.Place.TheVariants.{At, Nowhere}
 use Rattle.ink_names.proofs.Firsts.{First, first-ways}
 
 -- the number that stands for a block in the search: 0 where it is no ink of that name
@@ -37,15 +36,15 @@ said-no false e = refl
 
 module _ (page name : List ℕ) where
   -- the lowest block that was found is an ink, and none below it is
-  pub lowest-at : (n : ℕ) → lowest page name ≡ At n
+  pub lowest-at : (n : ℕ) → lowest page name ≡ Some n
       → (n < length page / 512) × (ink_at page name n ≡ true) × ((m : ℕ) → m < n → ink_at page name m ≡ false)
   unfolding lowest
-  lowest-at n e = ⊎_elim (λ z. absurd (apart z)) by_first (first-ways Nowhere (λ _ k. At k) (mark page name) 0 (length page / 512) (At n) e)
+  lowest-at n e = ⊎_elim (λ z. absurd (apart z)) by_first (first-ways {A = Option ℕ} None (λ _ k. Some k) (mark page name) 0 (length page / 512) (Some n) e)
     where
-      apart : Nowhere ≡ At n → ⊥
+      apart : None ≡ Some n → ⊥
       apart z = let w : ◌≡◌ {A = ℕ} 0 1 = cc in omega arith
 
-      by_first : First Nowhere (λ _ k. At k) (mark page name) 0 (length page / 512) (At n)
+      by_first : First None (λ _ k. Some k) (mark page name) 0 (length page / 512) (Some n)
           → (n < length page / 512) × (ink_at page name n ≡ true) × ((m : ℕ) → m < n → ink_at page name m ≡ false)
       by_first r =
           let here : r.at ≡ n = cc r.gives in (
@@ -55,9 +54,9 @@ module _ (page name : List ℕ) where
           )
 
   -- where none was found, no block is
-  pub lowest-none : lowest page name ≡ Nowhere → (m : ℕ) → m < length page / 512 → ink_at page name m ≡ false
+  pub lowest-none : lowest page name ≡ None → (m : ℕ) → m < length page / 512 → ink_at page name m ≡ false
   unfolding lowest
-  lowest-none e m l = said-no _ ((first-none Nowhere (λ _ k. At k) (mark page name) Nowhere (λ _ k z. let w : ◌≡◌ {A = ℕ} 0 1 = cc in omega arith) (length page / 512) e).1 m l)
+  lowest-none e m l = said-no _ ((first-none {A = Option ℕ} None (λ _ k. Some k) (mark page name) None (λ _ k z. let w : ◌≡◌ {A = ℕ} 0 1 = cc in omega arith) (length page / 512) e).1 m l)
 
 -- ---- through the validation of a page
 
@@ -87,32 +86,32 @@ module _ (p : Page) (o : Outcome) (r : Reply) where
 -- ---- what a reply tells
 
 -- of the two places
-pub at_first : (a b : Place) (n : ℕ) → At n ≡ a → found jobs n ≡ either a b
-at_first a b n e = ap (λ (x : Place). either x b) e
+pub at_first : (a b : Option ℕ) (n : ℕ) → Some n ≡ a → found jobs n ≡ either a b
+at_first a b n e = ap (λ (x : Option ℕ). either x b) e
 
-pub past_first : (a b : Place) {s : Reply} → Nowhere ≡ a → s ≡ either Nowhere b → s ≡ either a b
-past_first a b e q = q ∙ ap (λ (x : Place). either x b) e
+pub past_first : (a b : Option ℕ) {s : Reply} → None ≡ a → s ≡ either None b → s ≡ either a b
+past_first a b e q = q ∙ ap (λ (x : Option ℕ). either x b) e
 
-pub either-jobs : (a b : Place) (n : ℕ) → either a b ≡ found jobs n → a ≡ At n
-either-jobs (At k) b n e = cc
-either-jobs Nowhere (At k) n e = absurd (let z : ◌≡◌ {A = ℕ} 0 1 = cc in omega arith)
-either-jobs Nowhere Nowhere n e = absurd (let z : ◌≡◌ {A = ℕ} 0 1 = cc in omega arith)
+pub either-jobs : (a b : Option ℕ) (n : ℕ) → either a b ≡ found jobs n → a ≡ Some n
+either-jobs (Some k) b n e = cc
+either-jobs None (Some k) n e = absurd (let z : ◌≡◌ {A = ℕ} 0 1 = cc in omega arith)
+either-jobs None None n e = absurd (let z : ◌≡◌ {A = ℕ} 0 1 = cc in omega arith)
 
-pub either-houses : (a b : Place) (n : ℕ) → either a b ≡ found houses n → (a ≡ Nowhere) × (b ≡ At n)
-either-houses (At k) b n e = absurd (let z : ◌≡◌ {A = ℕ} 0 1 = cc in omega arith)
-either-houses Nowhere (At k) n e = (refl, cc)
-either-houses Nowhere Nowhere n e = absurd (let z : ◌≡◌ {A = ℕ} 0 1 = cc in omega arith)
+pub either-houses : (a b : Option ℕ) (n : ℕ) → either a b ≡ found houses n → (a ≡ None) × (b ≡ Some n)
+either-houses (Some k) b n e = absurd (let z : ◌≡◌ {A = ℕ} 0 1 = cc in omega arith)
+either-houses None (Some k) n e = (refl, cc)
+either-houses None None n e = absurd (let z : ◌≡◌ {A = ℕ} 0 1 = cc in omega arith)
 
-pub either-neither : (a b : Place) (n : ℕ) → either a b ≡ found neither n → ⊥
-either-neither (At k) b n e = let z : ◌≡◌ {A = ℕ} 0 1 = cc in omega arith
-either-neither Nowhere (At k) n e = let z : ◌≡◌ {A = ℕ} 0 1 = cc in omega arith
-either-neither Nowhere Nowhere n e = let z : ◌≡◌ {A = ℕ} 0 1 = cc in omega arith
+pub either-neither : (a b : Option ℕ) (n : ℕ) → either a b ≡ found neither n → ⊥
+either-neither (Some k) b n e = let z : ◌≡◌ {A = ℕ} 0 1 = cc in omega arith
+either-neither None (Some k) n e = let z : ◌≡◌ {A = ℕ} 0 1 = cc in omega arith
+either-neither None None n e = let z : ◌≡◌ {A = ℕ} 0 1 = cc in omega arith
 
-either-refused : (a b : Place) (number : ℕ) (w : Page) (block : ℕ) → either a b ≡ refusal number w block
-    → (a ≡ Nowhere) × (b ≡ Nowhere) × (number ≡ 8) × (w ≡ neither) × (block ≡ 0)
-either-refused (At k) b number w block e = absurd (let z : ◌≡◌ {A = ℕ} 0 1 = cc in omega arith)
-either-refused Nowhere (At k) number w block e = absurd (let z : ◌≡◌ {A = ℕ} 0 1 = cc in omega arith)
-either-refused Nowhere Nowhere number w block e = (refl, refl, cc, cc, cc)
+either-refused : (a b : Option ℕ) (number : ℕ) (w : Page) (block : ℕ) → either a b ≡ refusal number w block
+    → (a ≡ None) × (b ≡ None) × (number ≡ 8) × (w ≡ neither) × (block ≡ 0)
+either-refused (Some k) b number w block e = absurd (let z : ◌≡◌ {A = ℕ} 0 1 = cc in omega arith)
+either-refused None (Some k) number w block e = absurd (let z : ◌≡◌ {A = ℕ} 0 1 = cc in omega arith)
+either-refused None None number w block e = (refl, refl, cc, cc, cc)
 
 module _ (job house name : List ℕ) where
   -- both pages are accepted, and the search on them found it
@@ -127,7 +126,7 @@ module _ (job house name : List ℕ) where
   pub refused-ways : (number : ℕ) (w : Page) (block : ℕ) → found_ink job house name ≡ refusal number w block
       → ((w ≡ jobs) × (validated job ≡ refused number block))
       ⊎ (((w ≡ houses) × (validated job ≡ accepted) × (validated house ≡ refused number block))
-      ⊎ ((w ≡ neither) × (number ≡ 8) × (block ≡ 0) × Accepted job house × (lowest job name ≡ Nowhere) × (lowest house name ≡ Nowhere)))
+      ⊎ ((w ≡ neither) × (number ≡ 8) × (block ≡ 0) × Accepted job house × (lowest job name ≡ None) × (lowest house name ≡ None)))
   unfolding found_ink
   refused-ways number w block e =
       ⊎_elim inl (λ j.

@@ -6,6 +6,7 @@ use mathlib.Core.List.{List}
 use Prim.Native.Nat.{ℕ, ◌+◌, ◌≤◌, ◌<◌}
 use native.Mathlib.Omega.{arith}
 use lib.ListN.{length}
+use Rattle.std.specs.Prelude.{Option, Some, None}
 use Rattle.fixed.specs.Bytes.{blocks}
 use Rattle.page.specs.Outcomes.{accepted, refused}
 use Rattle.page.specs.Validation.{validated}
@@ -13,9 +14,7 @@ use Rattle.page.proofs.Accepted.{below-most}
 use Rattle.ink_names.specs.Replies.{Page, jobs, houses, neither, Reply, found, refusal, block_in}
 use Rattle.ink_names.specs.Names.{name_start, name_size}
 use Rattle.ink_names.specs.Search.{lowest, found_ink}
-use Rattle.ink_names.specs.Laws.{IsInk, None, Lowest, Accepted, InksByName}
-use Rattle.ink_names.specs.declared.search.Place.{Place}
-use Rattle.ink_names.specs.declared.search.Place.TheVariants.{At, Nowhere}
+use Rattle.ink_names.specs.Laws.{IsInk, None as NoInk, Lowest, Accepted, InksByName}
 use Rattle.ink_names.proofs.Refused.{refused-below}
 use Rattle.ink_names.proofs.Named.{test-is, is-test, ink-size, ink-short, ink-room, ink-there}
 use Rattle.ink_names.proofs.Found.{lowest-at, lowest-none, past-accepted, at-refused, either-jobs, either-houses, either-neither, found-both, refused-ways, on_both}
@@ -26,7 +25,7 @@ apart p q e h = absurd (let z = h e in omega arith)
 
 module _ (page name : List ℕ) where
   -- what the search found, and what it tells where it found nothing
-  lowest-is : validated page ≡ accepted → (n : ℕ) → lowest page name ≡ At n → Lowest page name n
+  lowest-is : validated page ≡ accepted → (n : ℕ) → lowest page name ≡ Some n → Lowest page name n
   lowest-is ok n e =
       let r = lowest-at page name n e in
       let i = test-is page name n r.0 r.1 in
@@ -36,23 +35,23 @@ module _ (page name : List ℕ) where
         stands = ink-there page ok n r.0 name i;
       }
 
-  none_is : lowest page name ≡ Nowhere → None page name
+  none_is : lowest page name ≡ None → NoInk page name
   none_is e n i = true≢false (sym (is-test page name n i) ∙ lowest-none page name e n i.on-page)
 
   -- a page that has the name has a lowest block of it, and one that has it not has none
-  some_at : (m : ℕ) → IsInk page name m → (n : ℕ) × (lowest page name ≡ At n)
+  some_at : (m : ℕ) → IsInk page name m → (n : ℕ) × (lowest page name ≡ Some n)
   some_at m i = by_place (lowest page name) refl
     where
-      by_place : (p : Place) → lowest page name ≡ p → (n : ℕ) × (lowest page name ≡ At n)
-      by_place (At n) e = (n, e)
-      by_place Nowhere e = absurd (none_is e m i)
+      by_place : (p : Option ℕ) → lowest page name ≡ p → (n : ℕ) × (lowest page name ≡ Some n)
+      by_place (Some n) e = (n, e)
+      by_place None e = absurd (none_is e m i)
 
-  none-nowhere : None page name → lowest page name ≡ Nowhere
+  none-nowhere : NoInk page name → lowest page name ≡ None
   none-nowhere h = by_place (lowest page name) refl
     where
-      by_place : (p : Place) → lowest page name ≡ p → lowest page name ≡ Nowhere
-      by_place (At n) e = let r = lowest-at page name n e in absurd (h n (test-is page name n r.0 r.1))
-      by_place Nowhere e = e
+      by_place : (p : Option ℕ) → lowest page name ≡ p → lowest page name ≡ None
+      by_place (Some n) e = let r = lowest-at page name n e in absurd (h n (test-is page name n r.0 r.1))
+      by_place None e = e
 
 module _ (job house name : List ℕ) where
   in-job-at : (n : ℕ) → found_ink job house name ≡ found jobs n → Accepted job house × Lowest job name n
@@ -60,7 +59,7 @@ module _ (job house name : List ℕ) where
       let f = found-both job house name jobs n e in
       (f.0, lowest-is job name f.0.job-accepted n (either-jobs _ _ n f.1))
 
-  in-house-at : (n : ℕ) → found_ink job house name ≡ found houses n → Accepted job house × Lowest house name n × None job name
+  in-house-at : (n : ℕ) → found_ink job house name ≡ found houses n → Accepted job house × Lowest house name n × NoInk job name
   in-house-at n e =
       let f = found-both job house name houses n e in
       let h = either-houses _ _ n f.1 in
@@ -78,7 +77,7 @@ module _ (job house name : List ℕ) where
       (refused-ways job house name number houses block e)
 
   of-neither-at : (number block : ℕ) → found_ink job house name ≡ refusal number neither block
-      → (number ≡ 8) × (block ≡ 0) × Accepted job house × None job name × None house name
+      → (number ≡ 8) × (block ≡ 0) × Accepted job house × NoInk job name × NoInk house name
   of-neither-at number block e =
       ⊎_elim (λ r. apart neither jobs r.0 (λ z. cc)) (⊎_elim (λ r. apart neither houses r.0 (λ z. cc)) (λ r.
       (r.1, r.2, r.3, none_is job name r.4, none_is house name r.5)))
@@ -97,10 +96,10 @@ module _ (job house name : List ℕ) where
     job-first-at : (m : ℕ) → IsInk job name m → (n : ℕ) × (found_ink job house name ≡ found jobs n)
     job-first-at m i = let s = some_at job name m i in (s.0, on_both job house name a ∙ rw s.1)
 
-    else-house-at : (m : ℕ) → None job name → IsInk house name m → (n : ℕ) × (found_ink job house name ≡ found houses n)
+    else-house-at : (m : ℕ) → NoInk job name → IsInk house name m → (n : ℕ) × (found_ink job house name ≡ found houses n)
     else-house-at m h i = let s = some_at house name m i in (s.0, on_both job house name a ∙ rw (none-nowhere job name h, s.1))
 
-    else-eight-is : None job name → None house name → found_ink job house name ≡ refusal 8 neither 0
+    else-eight-is : NoInk job name → NoInk house name → found_ink job house name ≡ refusal 8 neither 0
     else-eight-is j h = on_both job house name a ∙ rw (none-nowhere job name j, none-nowhere house name h)
 
 pub inks-by-name : InksByName

@@ -1,6 +1,6 @@
 -- The name of a Separation on an accepted page: it has at most 127 bytes, so they are on the page, and they are those of its record's room.
 use mathlib.Core.Path.{◌≡◌, refl, sym, ap, ◌∙◌}
-use mathlib.Core.Bool.{true, true≢false}
+use mathlib.Core.Bool.{Bool, true, false, true≢false}
 use mathlib.Core.List.{List}
 use Prim.Native.Nat.{ℕ, zero, suc, ◌+◌, ◌-◌, ◌*◌, ◌/◌, ◌≤◌, ◌<◌}
 use native.Mathlib.Omega.{arith}
@@ -24,6 +24,7 @@ use Rattle.page.proofs.Sizes.{sized-whole}
 use Rattle.page.proofs.Accepted.{well-sized, formed-at}
 use Rattle.ink_names.specs.Names.{same_name, ink_named, ink_at, name_length, name_start, name_size}
 use Rattle.ink_names.specs.Laws.{IsInk}
+use Rattle.std.specs.Cmp.Lexicographic.{pointwise, same_text, other_text}
 
 -- two names that are the same are equal, and equal names are the same
 same-equal : (s t : List ℕ) → same_name s t ≡ true → s ≡ t
@@ -44,6 +45,15 @@ same_from s k (suc n) = rw (eq-eqb (get_or s k 0) (get_or s k 0) refl) (same_fro
 equal-same : (s t : List ℕ) → s ≡ t → same_name s t ≡ true
 unfolding same_name
 equal-same s t e = rw (← e) (both (eq-eqb (length s) (length s) refl) (same_from s 0 (length s - 0)))
+
+-- the library's test of two names says the same
+pub same-names : (r : Bool) (s t : List ℕ) → r ≡ pointwise eqb s t → r ≡ same_name s t
+same-names true s t e = sym (equal-same s t (same_text s t e))
+same-names false s t e = by-test (same_name s t) refl
+  where
+    by-test : (x : Bool) → same_name s t ≡ x → false ≡ same_name s t
+    by-test true h = absurd (other_text s t e (same-equal s t h))
+    by-test false h = sym h
 
 -- only a Separation is an ink
 ink-separation : (y : Body) (s name : List ℕ) → ink_named y s name ≡ true

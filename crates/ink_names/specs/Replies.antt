@@ -1,9 +1,11 @@
 -- What asking for an ink by its name comes to (FORMAT.md, Inks by name).
-use Rattle.std.specs.Prelude.{ℕ}
-use Rattle.ink_names.specs.declared.Which.{Which}
-use Rattle.ink_names.specs.declared.Which.TheVariants.{Job, House, Neither}
-use Rattle.ink_names.specs.declared.Ink.{Ink}
-use Rattle.ink_names.specs.declared.Ink.TheVariants.{Found, Refused}
+use Rattle.std.specs.Prelude.{ℕ, Result, Ok, Err}
+use Rattle.fixed.specs.Refusals.{number_of}
+use Rattle.ink_names.specs.declared.asked.Side.{Side}
+use Rattle.ink_names.specs.declared.asked.Side.TheVariants.{Job, House}
+use Rattle.ink_names.specs.declared.asked.Place.{Place}
+use Rattle.ink_names.specs.declared.asked.AskError.{AskError}
+use Rattle.ink_names.specs.declared.asked.AskError.TheVariants.{JobRefused, HouseRefused, NoSuchInk}
 
 -- the page that a reply is about
 pub data Page : Type 0 where
@@ -21,12 +23,13 @@ abbrev pub block_in : Reply → ℕ
 block_in (found page block) = block
 block_in (refusal number page block) = block
 
--- what each case of the enum `Which` says, and of the enum `Ink`
-abbrev pub said : Which → Page
+-- what each page is, and what a `Result` says
+abbrev pub said : Side → Page
 said Job = jobs
 said House = houses
-said Neither = neither
 
-abbrev pub meaning : Ink → Reply
-meaning (Found page block) = found (said page) block
-meaning (Refused number page block) = refusal number (said page) block
+abbrev pub meaning : Result Place AskError → Reply
+meaning (Ok f) = found (said f.page) f.block
+meaning (Err (JobRefused e)) = refusal (number_of e.refusal) jobs e.block
+meaning (Err (HouseRefused e)) = refusal (number_of e.refusal) houses e.block
+meaning (Err NoSuchInk) = refusal 8 neither 0

@@ -2,27 +2,10 @@
 ghost use Rattle.std.specs.Prelude.{◌≡◌, ◌+◌, ◌/◌, ◌<◌, ◌≤◌, length};
 ghost use Rattle.page.specs.Outcomes.{accepted};
 ghost use Rattle.page.specs.Validation.{validated};
-ghost use Rattle.ink_names.specs.Names.{same_name, ink_at, name_start};
+ghost use Rattle.ink_names.specs.Names.{ink_at, name_start};
 ghost use Rattle.ink_names.specs.Parts.{PartOf};
 
 use record::{Body, NAME_FROM, body_at};
-
-// Whether two names are the same: as long, and byte by byte.
-fn is_same(s: &[u8], t: &[u8]) -> bool
-    ensures { result ≡ same_name s.now t.now }
-{
-    if s.len() != t.len() {
-        return false;
-    }
-    let mut k: usize = 0;
-    while k < t.len() {
-        if s[k] != t[k] {
-            return false;
-        }
-        k += 1;
-    }
-    true
-}
 
 // Where the name of block n begins on its page.
 pub fn name_start(n: u32) -> usize
@@ -45,9 +28,8 @@ pub fn is_ink(page: &[u8], name: &[u8], n: u32) -> bool
     requires { (validated page.now ≡ accepted) × (n < length page.now / 512) }
     ensures { result ≡ ink_at page.now name.now n }
 {
-    let y = body_at(page, n);
-    let Body::Separation(p) = y else {
+    let Body::Separation(p) = body_at(page, n) else {
         return false;
     };
-    is_same(name_part(page, n, p.name_len as usize), name)
+    name_part(page, n, p.name_len as usize) == name
 }

@@ -6,25 +6,16 @@ ghost use Rattle.ink_names.specs.Search.{lowest as lowest_of};
 
 use crate::names::is_ink;
 
-// Where an ink is on a page: the lowest block that has its name, or none.
-#[derive(Clone, Copy, Drop)]
-pub enum Place {
-    At(u32),
-    Nowhere,
-}
-
-// Looks at the blocks of an accepted page upward.
-pub fn lowest(page: &[u8], name: &[u8]) -> Place
+// The lowest block of an accepted page that is an ink of this name.
+pub fn lowest(page: &[u8], name: &[u8]) -> Option<u32>
     requires { validated page.now ≡ accepted }
     ensures { result ≡ lowest_of page.now name.now }
 {
     let n = (page.len() / 512) as u32;
-    let mut i: u32 = 0;
-    while i < n {
+    for i in 0..n {
         if is_ink(page, name, i) {
-            return Place::At(i);
+            return Some(i);
         }
-        i += 1;
     }
-    Place::Nowhere
+    None
 }

@@ -1,15 +1,12 @@
--- A mask with a bit that is off has room for it; values put at 0 one by one.
-use mathlib.Core.Path.{◌≡◌, refl, sym, ap, ◌∙◌}
+-- A mask with a bit that is off has room for it.
+use mathlib.Core.Path.{◌≡◌, refl}
 use mathlib.Core.Bool.{Bool, true, false}
-use mathlib.Core.List.{List, [], ◌∷◌, ◌++◌}
-use Prim.Native.Nat.{ℕ, zero, suc, ◌+◌, ◌-◌, ◌/◌, ◌%◌, ◌^◌, ◌≤◌, ◌<◌}
+use Prim.Native.Nat.{ℕ, zero, suc, ◌+◌, ◌-◌, ◌*◌, ◌/◌, ◌%◌, ◌^◌, ◌≤◌, ◌<◌}
 use native.Mathlib.Omega.{arith}
+use Rattle.std.proofs.Math.Nat.{pow-le-pow_right}
 use mathlib.Core.Logic.{◌⊎◌, inl, inr, ⊎_elim}
 use borrow.Author.Tests.{eqb-false, ltb-true, ltb-false}
 use lib.Dec.{ltb}
-use lib.ListN.{length, set, take, replicate, replicate-append-replicate}
-use lib.Seq.{take-suc-set, take_all}
-use lib.IntN.{ℤ, pos}
 use Rattle.keys.specs.Entries.{met_in}
 
 -- one of two orders
@@ -39,18 +36,6 @@ mask-room mask (suc (suc (suc (suc (suc (suc (suc (suc (suc zero))))))))) m k h 
 mask-room mask (suc (suc (suc (suc (suc (suc (suc (suc (suc (suc zero)))))))))) m k h = bit-room mask 1024 (omega arith) m (λ z. eqb-false (mask / 1024 % 2) 1 h (omega arith))
 mask-room mask (suc (suc (suc (suc (suc (suc (suc (suc (suc (suc (suc key))))))))))) m k h = absurd (omega arith)
 
--- one value less
-pub past : (n k : ℕ) → n ≤ k → (k ≡ n → ⊥) → suc n ≤ k
-past n k h e = ⊎_elim (λ (z : n < k). omega arith) (λ (z : k ≤ n). absurd (e (omega arith))) (split n k)
-
--- zeros, one more
-pub cleared : (l : List ℤ) (i : ℕ) → i < length l → take i l ≡ replicate i (pos 0) → take (i + 1) (set l i (pos 0)) ≡ replicate (i + 1) (pos 0)
-cleared l i h e =
-    let f : i + 1 ≡ suc i = omega arith in
-    ap (λ (n : ℕ). take n (set l i (pos 0))) f ∙ take-suc-set l i (pos 0) h
-    ∙ ap (λ (t : List ℤ). t ++ (pos 0 ∷ [])) e ∙ replicate-append-replicate i 1 (pos 0)
-
-pub zeros : (l : List ℤ) (i : ℕ) → length l ≡ 30 → 30 ≤ i → i ≤ 30 → take i l ≡ replicate i (pos 0) → l ≡ replicate 30 (pos 0)
-zeros l i w h k e =
-    let f : i ≡ 30 = omega arith in
-    sym (take_all i l (omega arith)) ∙ e ∙ ap (λ (n : ℕ). replicate n (pos 0)) f
+-- and is a bit of 32
+pub bit-whole : (key : ℕ) → key ≤ 10 → 1 * 2 ^ key % 4294967296 ≡ 2 ^ key
+bit-whole key h = let few : 2 ^ key ≤ 1024 = pow-le-pow_right (omega arith) h in omega arith

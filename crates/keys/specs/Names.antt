@@ -1,5 +1,5 @@
 -- The names that a text knows (ISO 32000-1, 8.6 and 7.10.3), each as its bytes, once #xx is taken out, and a number for it.
-use Rattle.std.specs.Prelude.{ℕ, cond, List, [], ◌∷◌}
+use Rattle.std.specs.Prelude.{◌≡◌, ℕ, ◌≤◌, cond, List, [], ◌∷◌, Option, MatchOption}
 use Rattle.lexical.specs.Names.{same}
 
 -- a row of a table: a name and its number
@@ -68,3 +68,7 @@ function_key_named w = among function_keys w
 -- the number of a key, 0 for any other name
 unfoldable pub key_named : List ℕ → ℕ
 key_named w = among keys w
+
+-- what is answered for a name: its number, of 1 to the most, or none where it is 0
+abbrev pub Names : Option ℕ → ℕ → ℕ → Type 0
+Names r n most = MatchOption r (n ≡ 0) (λ x. (x ≡ n) × ((1 ≤ x) × (x ≤ most)))

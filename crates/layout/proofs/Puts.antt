@@ -1,20 +1,13 @@
 -- Fields that are stored one after the other.
 use mathlib.Core.Path.{◌≡◌, refl, sym, ap, ◌∙◌}
 use mathlib.Core.List.{List, [], ◌∷◌, ◌++◌, append-nil}
-use Prim.Native.Nat.{ℕ, zero, suc, ◌+◌, ◌-◌, ◌<◌, ◌≤◌, ◌^◌}
+use Prim.Native.Nat.{ℕ, zero, suc, ◌+◌, ◌-◌, ◌≤◌}
 use native.Mathlib.Nat.{add-zero}
-use native.Mathlib.Numerals.{add-one}
 use native.Mathlib.Omega.{arith}
-use lib.ListN.{length, get_or, set, drop, replicate, length-replicate, replicate-append-replicate, drop_of_length-le}
-use lib.Seq.{sets, length-sets, sets-eq, get_or-drop}
-use lib.IntN.{ℤ}
-use lib.Signed.{mag}
-use mir.Syntax.{w32}
-use mir.Val.{to_z, of_z}
-use Rattle.fixed.proofs.Signs.{signed-within}
+use lib.ListN.{length, take, replicate, drop_of_length-le}
+use lib.Seq.{sets, length-sets, sets-eq, take-nil}
 use Rattle.fixed.proofs.Stores.{sets-append}
-use Rattle.layout.specs.Field.{Field, num, size, sizes, bytes_of, written, puts, padded}
-use Rattle.layout.proofs.Held.{length-padded}
+use Rattle.layout.specs.Field.{Field, size, sizes, bytes_of, written, puts, padded}
 use Rattle.layout.proofs.Fields.{size-bytes}
 
 -- stores that go on where others ended
@@ -50,36 +43,18 @@ unfolding puts
 length-puts [] d at = refl
 length-puts (f ∷ fs) d at = length-puts fs (sets d at (bytes_of f)) (at + size f) ∙ length-sets d at (bytes_of f)
 
--- a signed number on its way into a call that stores it
-pub sent : (d : List ℕ) (at : ℕ) (z : ℤ) {x : List ℕ} → mag z < 2 ^ 31 → x ≡ puts d at (num (to_z w32 (of_z w32 z)) ∷ []) → x ≡ puts d at (num z ∷ [])
-sent d at z h e = e ∙ (λ i. puts d at (num (signed-within z h i) ∷ []))
-
--- one more zero
-zero_more : (n : ℕ) (d : List ℕ) (at : ℕ) → set (sets d at (replicate n 0)) (at + n) 0 ≡ sets d at (replicate (n + 1) 0)
-zero_more n d at =
-    ap (λ (k : ℕ). set (sets d at (replicate n 0)) (at + k) 0) (sym (length-replicate {A = ℕ} n 0))
-    ∙ sets-append (replicate n 0) d at (0 ∷ []) ∙ ap (sets d at) (replicate-append-replicate n 1 0)
-
-pub zero_turn : (d : List ℕ) (at i : ℕ) (x : List ℕ) → at ≤ i → x ≡ sets d at (replicate (i - at) 0) → set x i 0 ≡ sets d at (replicate (i + 1 - at) 0)
-zero_turn d at i x h e =
-    let p : at + (i - at) ≡ i = omega arith in
-    let q : i - at + 1 ≡ i + 1 - at = omega arith in
-    ap (λ (l : List ℕ). set l i 0) e ∙ ap (λ (k : ℕ). set (sets d at (replicate (i - at) 0)) k 0) (sym p)
-    ∙ zero_more (i - at) d at ∙ ap (λ (k : ℕ). sets d at (replicate k 0)) q
-
--- one more byte of a run
-padded-more : (i : ℕ) (s : List ℕ) → padded (i + 1) s ≡ padded i s ++ (get_or s i 0 ∷ [])
+-- a run is the bytes that are there, and zeros in the place of the others
+pub padded-cut : (n : ℕ) (s : List ℕ) → padded n s ≡ take n s ++ replicate (n - length s) 0
 unfolding padded
-padded-more i s = ap (λ (k : ℕ). padded k s) (add-one i) ∙ grown i s
-  where
-    grown : (i : ℕ) (s : List ℕ) → padded (suc i) s ≡ padded i s ++ (get_or s i 0 ∷ [])
-    grown zero s = refl
-    grown (suc i) s =
-        ap (λ (l : List ℕ). get_or s 0 0 ∷ l)
-        (grown i (drop 1 s) ∙ (let e : 1 + i ≡ suc i = omega arith in ap (λ (x : ℕ). padded i (drop 1 s) ++ (x ∷ [])) (get_or-drop 1 s i 0 ∙ ap (λ (k : ℕ). get_or s k 0) e)))
+padded-cut zero s = let e : 0 - length s ≡ 0 = omega arith in rw e
+padded-cut (suc n) [] =
+    let e : suc n - 0 ≡ suc (n - 0) = omega arith in
+    rw e (ap (λ (l : List ℕ). 0 ∷ l) (padded-cut n [] ∙ ap (λ (l : List ℕ). l ++ replicate (n - 0) 0) (take-nil n)))
+padded-cut (suc n) (x ∷ s) = let e : suc n - suc (length s) ≡ n - length s = omega arith in rw e (ap (λ (l : List ℕ). x ∷ l) (padded-cut n s))
 
-pub copied : (d : List ℕ) (at : ℕ) (s : List ℕ) (i : ℕ) {x : List ℕ} → x ≡ sets d at (padded i s) → set x (at + i) (get_or s i 0) ≡ sets d at (padded (i + 1) s)
-copied d at s i e =
-    ap (λ (l : List ℕ). set l (at + i) (get_or s i 0)) e
-    ∙ ap (λ (k : ℕ). set (sets d at (padded i s)) (at + k) (get_or s i 0)) (sym (length-padded i s))
-    ∙ sets-append (padded i s) d at (get_or s i 0 ∷ []) ∙ ap (sets d at) (sym (padded-more i s))
+-- and where all are there, it is those bytes
+pub padded-take : (n : ℕ) (s : List ℕ) → n ≤ length s → padded n s ≡ take n s
+unfolding padded
+padded-take zero s h = refl
+padded-take (suc n) [] h = absurd (omega arith)
+padded-take (suc n) (x ∷ s) h = ap (λ (l : List ℕ). x ∷ l) (padded-take n s (omega arith))

@@ -1,4 +1,6 @@
 // Storing one field: each leaves the bytes with that field from `at` on, and all other bytes as they were.
+#![tactic(auto, unfolding(crate::specs::Field::puts))]
+
 ghost use Rattle.std.specs.Prelude.{◌≡◌, [], ◌∷◌, ◌+◌, ◌-◌, ◌<◌, ◌≤◌, length};
 ghost use Rattle.layout.specs.Field.{one, two, num, run, gap, puts};
 
@@ -27,15 +29,12 @@ pub fn put_num(out: &mut [u8], at: usize, v: i32)
 }
 
 // Stores the first n bytes of s.
+// Kept: (s, n), for the field of the definition is `run n s`, the first n bytes of a room.
 pub fn put_run(out: &mut [u8], at: usize, s: &[u8], n: usize)
     requires { (n ≤ length s.now) × (at + n ≤ length out.old) }
     ensures { out.new ≡ puts out.old at (run n s.now ∷ []) }
 {
-    let mut i: usize = 0;
-    while i < n {
-        out[at + i] = s[i];
-        i += 1;
-    }
+    out[at..at + n].copy_from_slice(&s[..n]);
 }
 
 // Stores zeros up to byte `to`.
@@ -43,9 +42,5 @@ pub fn put_zeros(out: &mut [u8], at: usize, to: usize)
     requires { (at ≤ to) × (to ≤ length out.old) }
     ensures { out.new ≡ puts out.old at (gap (to - at) ∷ []) }
 {
-    let mut i: usize = at;
-    while i < to {
-        out[i] = 0;
-        i += 1;
-    }
+    out[at..to].fill(0);
 }

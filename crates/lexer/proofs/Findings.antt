@@ -71,31 +71,31 @@ module _ (s : Scan) (text : List ℕ) (i : ℕ) where
     unfolding found
     found-past full = rw (drop-cons text i 0 within, le-ltb s.seen bound full)
 
-    module _ (few : s.seen < bound) (s₁ : Scan) (m₁ : Met) (t₁ : Bool) (ends : s₁ ≡ ended_scan s (get_or text i 0)) (meets : m₁ ≡ ended_met s (get_or text i 0))
+    module _ (b : ℕ) (byte : b ≡ get_or text i 0) (few : s.seen < bound) (s₁ : Scan) (m₁ : Met) (t₁ : Bool) (ends : s₁ ≡ ended_scan s b) (meets : m₁ ≡ ended_met s b)
         (is : t₁ ≡ is_nothing m₁) where
       pub found-stop : t₁ ≡ false → finding s₁ m₁ (drop i text) ≡ found s (drop i text)
       unfolding found
       found-stop e =
-          let f : is_nothing (ended_met s (get_or text i 0)) ≡ false = ap is_nothing (sym meets) ∙ sym is ∙ e in
-          rw (ends, meets, drop-cons text i 0 within, lt-ltb s.seen bound few, f)
+          let f : is_nothing (ended_met s b) ≡ false = ap is_nothing (sym meets) ∙ sym is ∙ e in
+          rw (ends, meets, drop-cons text i 0 within, ← byte, lt-ltb s.seen bound few, f)
 
-      module _ (none : t₁ ≡ true) (s₂ : Scan) (m₂ : Met) (t₂ : Bool) (joins : s₂ ≡ joined_scan s₁ (get_or text i 0))
-          (joins_met : m₂ ≡ joined_met s₁ (get_or text i 0)) (is₂ : t₂ ≡ is_nothing m₂) where
-        onward : is_nothing (ended_met s (get_or text i 0)) ≡ true
+      module _ (none : t₁ ≡ true) (s₂ : Scan) (m₂ : Met) (t₂ : Bool) (joins : s₂ ≡ joined_scan s₁ b)
+          (joins_met : m₂ ≡ joined_met s₁ b) (is₂ : t₂ ≡ is_nothing m₂) where
+        onward : is_nothing (ended_met s b) ≡ true
         onward = ap is_nothing (sym meets) ∙ sym is ∙ none
 
-        further : (t : Bool) → t₂ ≡ t → is_nothing (joined_met (ended_scan s (get_or text i 0)) (get_or text i 0)) ≡ t
-        further t e = ap (λ (z : Scan). is_nothing (joined_met z (get_or text i 0))) (sym ends) ∙ ap is_nothing (sym joins_met) ∙ sym is₂ ∙ e
+        further : (t : Bool) → t₂ ≡ t → is_nothing (joined_met (ended_scan s b) b) ≡ t
+        further t e = ap (λ (z : Scan). is_nothing (joined_met z b)) (sym ends) ∙ ap is_nothing (sym joins_met) ∙ sym is₂ ∙ e
 
         pub found-met : t₂ ≡ false → finding s₂ m₂ (drop (i + 1) text) ≡ found s (drop i text)
         unfolding found
         found-met e =
-            rw (joins, joins_met, ends, drop-cons text i 0 within, add-one, lt-ltb s.seen bound few, onward, further false e)
+            rw (joins, joins_met, ends, drop-cons text i 0 within, ← byte, add-one, lt-ltb s.seen bound few, onward, further false e)
 
         pub found_turn : t₂ ≡ true → found s₂ (drop (i + 1) text) ≡ found s (drop i text)
         unfolding found
         found_turn e =
-            rw (joins, ends, drop-cons text i 0 within, add-one, lt-ltb s.seen bound few, onward, further true e)
+            rw (joins, ends, drop-cons text i 0 within, ← byte, add-one, lt-ltb s.seen bound few, onward, further true e)
 
 -- ---- the end of the text hands on no byte
 

@@ -4,8 +4,8 @@ use mathlib.Core.Bool.{Bool, true, false, ◌||◌, not, true≢false}
 use mathlib.Core.List.{List}
 use Prim.Native.Nat.{ℕ, ◌+◌, ◌<◌}
 use native.Mathlib.Omega.{arith}
-use borrow.Author.Tests.{ne_eqb, not-true, not-false, leb-false, lt-ltb}
-use lib.Dec.{eqb, leb}
+use borrow.Author.Tests.{ne_eqb, not-true, lt-ltb}
+use lib.Dec.{eqb}
 use lib.ListN.{length, get_or, take, drop, set}
 use Rattle.fixed.proofs.Decide.{and_left, and_right}
 use Rattle.lexical.specs.Chars.{white, regular, line_end, hex_of, hex_byte}
@@ -77,19 +77,15 @@ goes-turn : (s : Scan) (text : List ℕ) (i : ℕ) (t : Scan) → i < length tex
 goes-turn s text i t within few p =
     let b = get_or text i 0 in
     ap (λ (z : Scan). found z (drop (i + 1) text)) (sym p.does)
-    ∙ found_turn s text i within few (ended_scan s b) (ended_met s b) (is_nothing (ended_met s b)) refl refl refl p.before
+    ∙ found_turn s text i within b refl few (ended_scan s b) (ended_met s b) (is_nothing (ended_met s b)) refl refl refl p.before
     (joined_scan (ended_scan s b) b) (joined_met (ended_scan s b) b) (is_nothing (joined_met (ended_scan s b) b)) refl refl refl p.at
 
 -- a turn of the loop over plain bytes
-pub plain_turn : (s : Scan) (text : List ℕ) (i : ℕ) (s' : Scan) → i < length text → s.seen < bound → is_plain s.mode (get_or text i 0) ≡ true
-    → s' ≡ plain_scan s (get_or text i 0) → found s' (drop (i + 1) text) ≡ found s (drop i text)
-plain_turn s text i s' within few h e =
-    ap (λ (z : Scan). found z (drop (i + 1) text)) e
-    ∙ goes-turn s text i _ within few (plain-at s.mode s.number s.word s.seen s.first (get_or text i 0) h)
-
--- what it says that a byte is passed over
-pub passes : (t : Bool) (n : ℕ) → (not t || leb bound n) ≡ false → (t ≡ true) × (n < bound)
-passes t n h = let e = neither (not t) (leb bound n) h in (not-false t e.0, leb-false bound n e.1)
+pub plain_turn : (s : Scan) (text : List ℕ) (i : ℕ) (s' : Scan) → i < length text → (b : ℕ) → b ≡ get_or text i 0 → s.seen < bound → is_plain s.mode b ≡ true
+    → s' ≡ plain_scan s b → found s' (drop (i + 1) text) ≡ found s (drop i text)
+plain_turn s text i s' within b byte few h e =
+    ap (λ (z : Scan). found z (drop (i + 1) text)) (e ∙ ap (plain_scan s) byte)
+    ∙ goes-turn s text i _ within few (plain-at s.mode s.number s.word s.seen s.first (get_or text i 0) (ap (is_plain s.mode) (sym byte) ∙ h))
 
 -- a byte of a name or of a literal string
 pub pass-spelled : (s : Scan) (b : ℕ) → is_gap s.mode ≡ false → is_regular s.mode ≡ false → is_spelled s.mode ≡ true
@@ -170,19 +166,3 @@ pair-again n size seen first i a b size' text word word' len within few ea eb ha
     (λ t. found (scan Hex n (x t) (more-two seen few t) first) (drop (i + 2) text))
     ∙ (λ t. found (scan Hex n (grown w (hex_byte (ea t) (eb t))) (more (more seen)) first) (drop (i + 2) text))
     ∙ pair_turn n w seen first i text within few (rw (← ea) ha) (rw (← eb) hb)
-
--- where the loop over pairs is left
-pub pairs-left : (l x : Lexer) (s : Scan) (at i from : ℕ) (text word word₀ : List ℕ) → l.mode ≡ Hex → scan_at x word ≡ s → at ≡ i
-    → found s (drop i text) ≡ found (hex_scan l.number l.size l.seen l.first word₀) (drop from text)
-    → found (scan_at x word) (drop at text) ≡ found (scan_at l word₀) (drop from text)
-pairs-left l x s at i from text word word₀ e f g h =
-    (λ t. found (f t) (drop (g t) text)) ∙ h
-    ∙ (λ t. found (record { mode = sym e t; number = l.number; word = record { size = l.size; bytes = take l.size word₀ }; seen = l.seen; first = l.first }) (drop from text))
-
--- what it says that a pair is passed over
-pub pair-passes : (a b n : ℕ) → (leb 16 a || (leb 16 b || leb 4294967294 n)) ≡ false → (a < 16) × (b < 16) × (n + 1 < bound)
-pair-passes a b n h =
-    let x = neither (leb 16 a) (leb 16 b || leb 4294967294 n) h in
-    let y = neither (leb 16 b) (leb 4294967294 n) x.1 in
-    let z : n < 4294967294 = leb-false 4294967294 n y.1 in
-    (leb-false 16 a x.0, leb-false 16 b y.0, omega arith)

@@ -271,9 +271,5 @@ abbrev pub hex_scan : Number → ℕ → ℕ → ℕ → List ℕ → Scan
 hex_scan n size seen first word =
     record { mode = Hex; number = n; word = record { size = size; bytes = take size word }; seen = seen; first = first }
 
--- another mode, number and size of the word
-abbrev pub reached : Lexer → Mode → Number → ℕ → Lexer
-reached l m n size = record { mode = m; number = n; size = size; seen = l.seen; first = l.first }
-
 abbrev pub found_at : Found → List ℕ → List ℕ → Finding
 found_at r word text = finding (scan_at r.lexer word) r.met (drop r.at text)

@@ -1,110 +1,70 @@
 // The moves of the lexer.
-ghost use Rattle.std.specs.Prelude.{◌≡◌, cond, ◌+◌};
-ghost use Rattle.lexical.specs.Chars.{regular};
-ghost use Rattle.lexer.specs.Moves.{quiet, emit, figure, whole, bad, more, is_gap};
+ghost use Rattle.std.specs.Prelude.{◌≡◌};
+ghost use Rattle.lexer.specs.Moves.{more, is_gap};
 
 use crate::types::{Event, Mode, Move, Token};
-use lexical::is_regular;
 
-// The mode changes, and no more.
-pub fn quiet_move(m: Mode) -> Move
-    ensures { result ≡ quiet m }
-{
-    Move {
-        mode: m,
-        event: Event::Quiet,
-    }
-}
+impl Move {
+    ghost use Rattle.lexer.specs.Moves.{quiet, emit, figure, whole, bad};
 
-// A byte of a name or string.
-pub fn emit_move(m: Mode, b: u8) -> Move
-    ensures { result ≡ emit m b }
-{
-    Move {
-        mode: m,
-        event: Event::Byte(b),
+    // The mode changes, and no more.
+    pub(crate) fn quiet(mode: Mode) -> Move
+        ensures { result ≡ quiet mode }
+    {
+        let event = Event::Quiet;
+        Move { mode, event }
     }
-}
 
-// A regular character of a number or keyword.
-pub fn figure_move(b: u8) -> Move
-    ensures { result ≡ figure b }
-{
-    Move {
-        mode: Mode::Regular,
-        event: Event::Figure(b),
+    // A byte of a name or string.
+    pub(crate) fn emit(mode: Mode, b: u8) -> Move
+        ensures { result ≡ emit mode b }
+    {
+        let event = Event::Byte(b);
+        Move { mode, event }
     }
-}
 
-// A token is complete.
-pub fn whole_move(t: Token) -> Move
-    ensures { result ≡ whole t }
-{
-    Move {
-        mode: Mode::Gap,
-        event: Event::WellMade(t),
+    // A regular character of a number or keyword.
+    pub(crate) fn figure(b: u8) -> Move
+        ensures { result ≡ figure b }
+    {
+        Move {
+            mode: Mode::Regular,
+            event: Event::Figure(b),
+        }
     }
-}
 
-// Bad syntax.
-pub fn bad_move() -> Move
-    ensures { result ≡ bad }
-{
-    Move {
-        mode: Mode::Gap,
-        event: Event::Bad,
+    // A token is complete.
+    pub(crate) fn whole(token: Token) -> Move
+        ensures { result ≡ whole token }
+    {
+        Move {
+            mode: Mode::Gap,
+            event: Event::WellMade(token),
+        }
     }
-}
 
-// One of two moves.
-pub fn choose(t: bool, x: Move, y: Move) -> Move
-    ensures { result ≡ cond t x y }
-{
-    if t {
-        return x;
+    // Bad syntax.
+    pub(crate) fn bad() -> Move
+        ensures { result ≡ bad }
+    {
+        Move {
+            mode: Mode::Gap,
+            event: Event::Bad,
+        }
     }
-    y
-}
-
-// A token of regular characters goes on, or has ended.
-pub fn end_regular(b: u8, m: Mode, v: Move) -> Move
-    ensures { result ≡ cond (regular b) (quiet m) v }
-{
-    if is_regular(b) {
-        return quiet_move(m);
-    }
-    v
 }
 
 // One more, as far as 32 bits go.
+#[tactic(auto, unfolding(crate::specs::Moves::more))]
 pub fn deeper(x: u32) -> u32
     ensures { result ≡ more x }
 {
-    if x < 4294967295 {
-        return x + 1;
-    }
-    x
+    x.saturating_add(1)
 }
 
 // Whether the lexer stands between tokens.
 pub fn is_gap(m: Mode) -> bool
     ensures { result ≡ is_gap m }
 {
-    match m {
-        Mode::Gap => true,
-        Mode::Comment => false,
-        Mode::Regular => false,
-        Mode::Name => false,
-        Mode::Hash => false,
-        Mode::HashDigit(_) => false,
-        Mode::Less => false,
-        Mode::Greater => false,
-        Mode::Hex => false,
-        Mode::HexDigit(_) => false,
-        Mode::Text(_) => false,
-        Mode::Return(_) => false,
-        Mode::Escape(_) => false,
-        Mode::Octal(_, _) => false,
-        Mode::Octals(_, _) => false,
-    }
+    matches!(m, Mode::Gap)
 }

@@ -1,19 +1,19 @@
 // Reading on from a place to the next token.
 ghost use Rattle.std.specs.Prelude.{◌≡◌, List, ℕ, ◌+◌, ◌*◌, ◌<◌, ◌≤◌, length, set, drop};
-ghost use Rattle.lexer.specs.Scans.{longest, met_by, moved_by, placed, counted, reached, ended_scan, ended_met, joined_scan, joined_met, last_scan, last_met, is_nothing, found, scan_at, found_at};
+ghost use Rattle.lexer.specs.Scans.{longest, met_by, moved_by, placed, counted, ended_scan, ended_met, joined_scan, joined_met, last_scan, last_met, is_nothing, found, scan_at, found_at};
 
 use crate::ends::{end_mode, last_mode};
 use crate::joins::join_mode;
 use crate::moves::{deeper, is_gap};
 use crate::plain::{has_plain, pass_over, skip};
-use crate::types::{Event, Found, Lexed, Lexer, Met, Mode, Move};
-use lexical::{Number, no_number, with_figure};
+use crate::types::{Event, Found, Lexed, Lexer, Met, Move};
+use lexical::{no_number, with_figure};
 
 // The bytes that are kept of a name or string.
 pub const LONGEST: usize = 1024;
 
 // The most bytes of a text.
-pub const BOUND: u32 = 4294967295;
+pub const BOUND: u32 = u32::MAX;
 
 // A byte of a name or string is noted, while there is room.
 pub fn note(word: &mut [u8], n: u32, x: u8)
@@ -25,52 +25,32 @@ pub fn note(word: &mut [u8], n: u32, x: u8)
     }
 }
 
-fn reach(l: Lexer, m: Mode, n: Number, size: u32) -> Lexer
-    ensures { result ≡ reached l m n size }
-{
-    Lexer {
-        mode: m,
-        number: n,
-        size: size,
-        seen: l.seen,
-        first: l.first,
-    }
-}
-
 // What a move does, and what it meets.
+#[tactic(auto, unfolding(crate::specs::Scans::after))]
 fn hand(l: Lexer, word: &mut [u8], v: Move) -> Lexed
     requires { length word.old ≡ longest }
     ensures is { scan_at result.lexer word.new ≡ moved_by (scan_at l word.old) v }
     ensures meets { result.met ≡ met_by v.event }
 {
-    let m = v.mode;
-    let e = v.event;
-    let n = l.number;
-    let size = l.size;
-    match e {
-        Event::Quiet => Lexed {
-            lexer: reach(l, m, n, size),
-            met: Met::Nothing,
-        },
+    let met = met_by(v.event);
+    let lexer = Lexer { mode: v.mode, ..l };
+    match v.event {
         Event::Byte(x) => {
-            note(word, size, x);
+            note(word, l.size, x);
+            let size = deeper(l.size);
             Lexed {
-                lexer: reach(l, m, n, deeper(size)),
-                met: Met::Nothing,
+                lexer: Lexer { size, ..lexer },
+                met,
             }
         }
-        Event::Figure(b) => Lexed {
-            lexer: reach(l, m, with_figure(n, b), size),
-            met: Met::Nothing,
-        },
-        Event::WellMade(t) => Lexed {
-            lexer: reach(l, m, n, size),
-            met: Met::Complete(t),
-        },
-        Event::Bad => Lexed {
-            lexer: reach(l, m, n, size),
-            met: Met::Wrong,
-        },
+        Event::Figure(b) => {
+            let number = with_figure(l.number, b);
+            Lexed {
+                lexer: Lexer { number, ..lexer },
+                met,
+            }
+        }
+        Event::Quiet | Event::WellMade(_) | Event::Bad => Lexed { lexer, met },
     }
 }
 
@@ -80,33 +60,26 @@ fn end_byte(l: Lexer, word: &mut [u8], b: u8) -> Lexed
     ensures is { scan_at result.lexer word.new ≡ ended_scan (scan_at l word.old) b }
     ensures meets { result.met ≡ ended_met (scan_at l word.old) b }
 {
-    let m = l.mode;
-    hand(l, word, end_mode(m, b))
+    hand(l, word, end_mode(l.mode, b))
 }
 
 // Between tokens a byte may be the first of one.
+#[tactic(auto, unfolding(crate::specs::Scans::placed, crate::specs::Scans::begun_word))]
 fn place(l: Lexer, b: u8) -> Lexer
     ensures { (word : List ℕ) → scan_at result word ≡ placed (scan_at l word) b }
 {
-    let m = l.mode;
-    if !is_gap(m) {
+    if !is_gap(l.mode) {
         return l;
     }
-    if (b == 47) | ((b == 40) | (b == 60)) {
-        return Lexer {
-            mode: m,
-            number: no_number(),
-            size: 0,
-            seen: l.seen,
-            first: l.seen,
-        };
-    }
     Lexer {
-        mode: m,
         number: no_number(),
-        size: l.size,
-        seen: l.seen,
+        size: if matches!(b, b'/' | b'(' | b'<') {
+            0
+        } else {
+            l.size
+        },
         first: l.seen,
+        ..l
     }
 }
 
@@ -114,15 +87,8 @@ fn place(l: Lexer, b: u8) -> Lexer
 fn count(l: Lexer) -> Lexer
     ensures { (word : List ℕ) → scan_at result word ≡ counted (scan_at l word) }
 {
-    let m = l.mode;
-    let n = l.number;
-    Lexer {
-        mode: m,
-        number: n,
-        size: l.size,
-        seen: deeper(l.seen),
-        first: l.first,
-    }
+    let seen = deeper(l.seen);
+    Lexer { seen, ..l }
 }
 
 // What a byte is a part of.
@@ -131,34 +97,24 @@ fn join_byte(l: Lexer, word: &mut [u8], b: u8) -> Lexed
     ensures is { scan_at result.lexer word.new ≡ joined_scan (scan_at l word.old) b }
     ensures meets { result.met ≡ joined_met (scan_at l word.old) b }
 {
-    let m = l.mode;
-    let h = hand(place(l, b), word, join_mode(m, b));
-    let k = h.lexer;
-    let met = h.met;
+    let h = hand(place(l, b), word, join_mode(l.mode, b));
     Lexed {
-        lexer: count(k),
-        met: met,
+        lexer: count(h.lexer),
+        ..h
     }
 }
 
 fn is_nothing(m: Met) -> bool
     ensures { result ≡ is_nothing m }
 {
-    match m {
-        Met::Nothing => true,
-        Met::Complete(_) => false,
-        Met::Wrong => false,
-        Met::Past => false,
-    }
+    matches!(m, Met::Nothing)
 }
 
 fn met_by(e: Event) -> Met
     ensures { result ≡ met_by e }
 {
     match e {
-        Event::Quiet => Met::Nothing,
-        Event::Byte(_) => Met::Nothing,
-        Event::Figure(_) => Met::Nothing,
+        Event::Quiet | Event::Byte(_) | Event::Figure(_) => Met::Nothing,
         Event::WellMade(t) => Met::Complete(t),
         Event::Bad => Met::Wrong,
     }
@@ -171,7 +127,8 @@ fn look(l: Lexer, word: &mut [u8], text: &[u8], from: usize) -> Found
 {
     let mut s = l;
     let mut i = from;
-    while i < text.len() {
+    // Kept: an index, for each turn goes as far as `pass_over` went.
+    while let Some(&b) = text.get(i) {
         if BOUND <= s.seen {
             return Found {
                 lexer: s,
@@ -179,36 +136,28 @@ fn look(l: Lexer, word: &mut [u8], text: &[u8], from: usize) -> Found
                 at: i,
             };
         }
-        let b = text[i];
         let e = end_byte(s, word, b);
-        let f = e.lexer;
-        let g = e.met;
-        if !is_nothing(g) {
+        if !is_nothing(e.met) {
             return Found {
-                lexer: f,
-                met: g,
+                lexer: e.lexer,
+                met: e.met,
                 at: i,
             };
         }
         i += 1;
-        let j = join_byte(f, word, b);
-        let h = j.lexer;
-        let k = j.met;
-        if !is_nothing(k) {
+        let j = join_byte(e.lexer, word, b);
+        if !is_nothing(j.met) {
             return Found {
-                lexer: h,
-                met: k,
+                lexer: j.lexer,
+                met: j.met,
                 at: i,
             };
         }
-        let m = h.mode;
-        if has_plain(m) {
-            let r = pass_over(h, word, text, i);
-            let next = r.lexer;
-            s = next;
+        s = j.lexer;
+        if has_plain(s.mode) {
+            let r = pass_over(s, word, text, i);
+            s = r.lexer;
             i = r.at;
-        } else {
-            s = h;
         }
     }
     Found {
@@ -219,14 +168,13 @@ fn look(l: Lexer, word: &mut [u8], text: &[u8], from: usize) -> Found
 }
 
 // Reads a part of a text from `from` on, up to the first thing that is met.
+// Kept: (l, word, text, from), the two sides of the clause `found (scan_at l word) (drop from text)`: a struct of them would be taken apart in it.
 pub fn find(l: Lexer, word: &mut [u8], text: &[u8], from: usize) -> Found
     requires { length word.old ≡ longest }
     ensures { found_at result word.new text.now ≡ found (scan_at l word.old) (drop from text.now) }
 {
     let r = skip(l, word, text, from);
-    let s = r.lexer;
-    let i = r.at;
-    look(s, word, text, i)
+    look(r.lexer, word, text, r.at)
 }
 
 // What the end of the text ends.
@@ -234,13 +182,9 @@ pub fn finish(l: Lexer) -> Lexed
     ensures is { (word : List ℕ) → scan_at result.lexer word ≡ last_scan (scan_at l word) }
     ensures meets { (word : List ℕ) → result.met ≡ last_met (scan_at l word) }
 {
-    let m = l.mode;
-    let n = l.number;
-    let v = last_mode(m);
-    let o = v.mode;
-    let e = v.event;
+    let v = last_mode(l.mode);
     Lexed {
-        lexer: reach(l, o, n, l.size),
-        met: met_by(e),
+        lexer: Lexer { mode: v.mode, ..l },
+        met: met_by(v.event),
     }
 }

@@ -3,7 +3,7 @@
 use lexical::Number;
 
 // Where the lexer stands. Text, Return, Escape, Octal and Octals have the nesting of parentheses, the last two the byte so far.
-#[derive(Clone, Copy)]
+#[derive(Clone, Copy, Debug, PartialEq, Eq)]
 pub enum Mode {
     Gap,
     Comment,
@@ -23,7 +23,7 @@ pub enum Mode {
 }
 
 // A token. One of regular characters is a number or a keyword.
-#[derive(Clone, Copy)]
+#[derive(Clone, Copy, Debug, PartialEq, Eq)]
 pub enum Token {
     NameToken,
     RegularToken,
@@ -35,7 +35,7 @@ pub enum Token {
 }
 
 // What a move hands on: nothing, a byte of a name or string, a regular character, a whole token, or bad syntax.
-#[derive(Clone, Copy)]
+#[derive(Clone, Copy, Debug, PartialEq, Eq)]
 pub enum Event {
     Quiet,
     Byte(u8),
@@ -45,14 +45,14 @@ pub enum Event {
 }
 
 // A move of the lexer: the next mode, and what it hands on.
-#[derive(Clone, Copy)]
+#[derive(Clone, Copy, Debug, PartialEq, Eq)]
 pub struct Move {
     pub mode: Mode,
     pub event: Event,
 }
 
 // What is met on the way: nothing, a token that is complete, bad syntax, or the first byte that is too many.
-#[derive(Clone, Copy)]
+#[derive(Clone, Copy, Debug, PartialEq, Eq)]
 pub enum Met {
     Nothing,
     Complete(Token),
@@ -61,7 +61,7 @@ pub enum Met {
 }
 
 // A place to read on from: the number so far, the size of the name or string that began last, the bytes read, and where the last token began.
-#[derive(Clone, Copy)]
+#[derive(Clone, Copy, Debug, PartialEq, Eq)]
 pub struct Lexer {
     pub mode: Mode,
     pub number: Number,
@@ -71,14 +71,14 @@ pub struct Lexer {
 }
 
 // A place, and what was met there.
-#[derive(Clone, Copy)]
+#[derive(Clone, Copy, Debug, PartialEq, Eq)]
 pub struct Lexed {
     pub lexer: Lexer,
     pub met: Met,
 }
 
 // The first thing met in a part, and where in the part to read on.
-#[derive(Clone, Copy)]
+#[derive(Clone, Copy, Debug, PartialEq, Eq)]
 pub struct Found {
     pub lexer: Lexer,
     pub met: Met,
@@ -86,7 +86,7 @@ pub struct Found {
 }
 
 // A place, and where in the part to read on.
-#[derive(Clone, Copy)]
+#[derive(Clone, Copy, Debug, PartialEq, Eq)]
 pub struct Skipped {
     pub lexer: Lexer,
     pub at: usize,

@@ -1,4 +1,3 @@
 -- Laws that several proofs cite, here and in the crates above.
 pub mod Ranges
 pub mod Values
-pub mod Spelling

@@ -1,6 +1,6 @@
--- What a test of a range, or of two things at once, shows.
+-- What a test of a range shows.
 use mathlib.Core.Path.{◌≡◌}
-use mathlib.Core.Bool.{Bool, true, ◌&&◌}
+use mathlib.Core.Bool.{true, ◌&&◌}
 use Prim.Native.Nat.{ℕ, ◌≤◌}
 use borrow.Author.Tests.{leb-true}
 use lib.Dec.{leb}
@@ -11,6 +11,3 @@ range-low a b x e = leb-true a x (and_left (leb a x) (leb x b) e)
 
 pub range-high : (a b x : ℕ) → (leb a x && leb x b) ≡ true → x ≤ b
 range-high a b x e = leb-true x b (and_right (leb a x) (leb x b) e)
-
-pub second-le : (t : Bool) (x n : ℕ) → (t && leb x n) ≡ true → x ≤ n
-second-le t x n e = leb-true x n (and_right t (leb x n) e)

@@ -5,82 +5,68 @@ ghost use Rattle.lexical.specs.Numbers.{after_digit, after_point, after_sign, af
 use crate::chars::is_decimal;
 use crate::types::{Number, Part};
 
+// The most millionths that 32 bits hold, which only a number below zero may have.
+const LARGEST: u64 = 1 << 31;
+
+// One, in millionths.
+const MILLION: u64 = 1_000_000;
+
+// With one digit more.
 fn after_digit(p: Part) -> Part
     ensures { result ≡ after_digit p }
 {
     match p {
-        Part::Empty => Part::Digits,
-        Part::Sign => Part::Digits,
-        Part::Digits => Part::Digits,
-        Part::Point => Part::Decimals,
-        Part::Decimals => Part::Decimals,
+        Part::Empty | Part::Sign | Part::Digits => Part::Digits,
+        Part::Point | Part::Decimals => Part::Decimals,
         Part::Keyword => Part::Keyword,
     }
 }
 
+// With a point.
 fn after_point(p: Part) -> Part
     ensures { result ≡ after_point p }
 {
     match p {
-        Part::Empty => Part::Point,
-        Part::Sign => Part::Point,
+        Part::Empty | Part::Sign => Part::Point,
         Part::Digits => Part::Decimals,
-        Part::Point => Part::Keyword,
-        Part::Decimals => Part::Keyword,
-        Part::Keyword => Part::Keyword,
+        Part::Point | Part::Decimals | Part::Keyword => Part::Keyword,
     }
 }
 
+// With a sign.
 fn after_sign(p: Part) -> Part
     ensures { result ≡ after_sign p }
 {
     match p {
         Part::Empty => Part::Sign,
-        Part::Sign => Part::Keyword,
-        Part::Digits => Part::Keyword,
-        Part::Point => Part::Keyword,
-        Part::Decimals => Part::Keyword,
-        Part::Keyword => Part::Keyword,
+        _ => Part::Keyword,
     }
 }
 
+// With a regular character that is no digit.
+#[tactic(auto, unfolding(crate::specs::Numbers::after_other))]
 fn after_other(p: Part, b: u8) -> Part
     ensures { result ≡ after_other p b }
 {
-    if b == 46 {
-        return after_point(p);
+    match b {
+        b'.' => after_point(p),
+        b'+' | b'-' => after_sign(p),
+        _ => Part::Keyword,
     }
-    if (b == 43) | (b == 45) {
-        return after_sign(p);
-    }
-    Part::Keyword
 }
 
+// Whether the point is passed.
 fn is_pointed(p: Part) -> bool
     ensures { result ≡ pointed p }
 {
-    match p {
-        Part::Empty => false,
-        Part::Sign => false,
-        Part::Digits => false,
-        Part::Point => true,
-        Part::Decimals => true,
-        Part::Keyword => false,
-    }
+    matches!(p, Part::Point | Part::Decimals)
 }
 
 // Whether a token of regular characters is a number.
 pub fn is_number(p: Part) -> bool
     ensures { result ≡ numeric p }
 {
-    match p {
-        Part::Empty => false,
-        Part::Sign => false,
-        Part::Digits => true,
-        Part::Point => false,
-        Part::Decimals => true,
-        Part::Keyword => false,
-    }
+    matches!(p, Part::Digits | Part::Decimals)
 }
 
 // No number yet.
@@ -96,63 +82,66 @@ pub fn no_number() -> Number
     }
 }
 
+// The digits as one number, with one more up to the sixth after the point.
 fn digit_raw(after: u32, raw: u64, d: u8) -> u64
     requires { d ≤ 9 }
     ensures { result ≡ cond (leb after 5 && leb raw 2147483648) (raw * 10 + d) raw }
 {
-    if (after <= 5) & (raw <= 2147483648) {
-        return raw * 10 + (d as u64);
+    if after <= 5 && raw <= LARGEST {
+        raw * 10 + d as u64
+    } else {
+        raw
     }
-    raw
 }
 
+// How many digits stand after the point, with one more, to seven.
 fn digit_after(past: bool, after: u32) -> u32
     ensures { result ≡ cond (past && leb after 6) (after + 1) after }
 {
-    if past & (after <= 6) {
-        return after + 1;
-    }
-    after
+    if past && after <= 6 { after + 1 } else { after }
 }
 
+// With one digit more.
+#[tactic(auto, unfolding(crate::specs::Numbers::with_digit))]
 fn with_digit(n: Number, d: u8) -> Number
     requires { d ≤ 9 }
     ensures { result ≡ with_digit n d }
 {
-    let p = n.part;
     Number {
-        part: after_digit(p),
+        part: after_digit(n.part),
         minus: n.minus,
-        fine: n.fine | ((6 <= n.after) & !(d == 0)),
+        fine: n.fine || 6 <= n.after && d != 0,
         raw: digit_raw(n.after, n.raw, d),
-        after: digit_after(is_pointed(p), n.after),
+        after: digit_after(is_pointed(n.part), n.after),
     }
 }
 
+// With a regular character more that is no digit.
+#[tactic(auto, unfolding(crate::specs::Numbers::with_other))]
 fn with_other(n: Number, b: u8) -> Number
     ensures { result ≡ with_other n b }
 {
-    let p = n.part;
     Number {
-        part: after_other(p, b),
-        minus: n.minus | (b == 45),
-        fine: n.fine,
-        raw: n.raw,
-        after: n.after,
+        part: after_other(n.part, b),
+        minus: n.minus || b == b'-',
+        ..n
     }
 }
 
 // The number with one regular character more.
+#[tactic(auto, unfolding(crate::specs::Numbers::with_figure))]
 pub fn with_figure(n: Number, b: u8) -> Number
     ensures { result ≡ with_figure n b }
 {
     if is_decimal(b) {
-        return with_digit(n, b - 48);
+        with_digit(n, b - b'0')
+    } else {
+        with_other(n, b)
     }
-    with_other(n, b)
 }
 
 // The power of ten that makes a number with so many digits after the point whole millionths.
+#[tactic(auto, unfolding(crate::specs::Numbers::scale_of))]
 fn scale(after: u32) -> u64
     ensures is { result ≡ scale_of after }
     ensures small { (1 ≤ result) × (result ≤ 1000000) }
@@ -169,40 +158,37 @@ fn scale(after: u32) -> u64
 }
 
 // Whether a number has a value in millionths: neither too fine nor too large.
+#[tactic(auto, unfolding(crate::specs::Numbers::fits))]
 pub fn number_fits(n: Number) -> bool
     ensures { result ≡ fits n }
 {
-    let after = n.after;
-    let raw = n.raw;
-    let s = scale(after);
-    if 2147483648 < raw {
+    let s = scale(n.after);
+    if LARGEST < n.raw {
         return false;
     }
-    let m = raw * s;
-    if n.minus {
-        return (after <= 6) & (m <= 2147483648);
-    }
-    (after <= 6) & (m <= 2147483647)
+    let m = n.raw * s;
+    n.after <= 6 && m <= if n.minus { LARGEST } else { LARGEST - 1 }
 }
 
 // The millionths of a number that fits.
+#[tactic(auto, unfolding(crate::specs::Numbers::fits))]
 fn millions(n: Number) -> u64
     requires { fits n ≡ true }
     ensures is { result ≡ millionths n }
     ensures small { result ≤ 2147483648 }
 {
-    let raw = n.raw;
-    raw * scale(n.after)
+    n.raw * scale(n.after)
 }
 
 // Whether a number that fits is whole, of lo to hi.
+#[tactic(auto, unfolding(crate::specs::Numbers::whole_in))]
 pub fn is_whole(n: Number, lo: u32, hi: u32) -> bool
     requires { fits n ≡ true }
     ensures { result ≡ whole_in n lo hi }
 {
     let m = millions(n);
-    let q = m / 1000000;
-    (m % 1000000 == 0) & (((lo as u64) <= q) & ((q <= (hi as u64)) & (!n.minus | (m == 0))))
+    let q = m / MILLION;
+    m % MILLION == 0 && lo as u64 <= q && q <= hi as u64 && (!n.minus || m == 0)
 }
 
 // The whole part of a number that fits.
@@ -210,28 +196,26 @@ pub fn whole(n: Number) -> u32
     requires { fits n ≡ true }
     ensures { result ≡ millionths n / 1000000 }
 {
-    (millions(n) / 1000000) as u32
+    (millions(n) / MILLION) as u32
 }
 
 // The value of a number that fits.
+#[tactic(auto, unfolding(crate::specs::Numbers::value_of, crate::specs::Numbers::fits))]
 pub fn value_of(n: Number) -> i32
     requires { fits n ≡ true }
     ensures { result ≡ value_of n }
 {
-    let m = millions(n);
-    if n.minus & (m != 0) {
-        return octets::to_signed((4294967296 - m) as u32);
-    }
-    octets::to_signed(m as u32)
+    let m = millions(n) as i64;
+    if n.minus { -m as i32 } else { m as i32 }
 }
 
 // Whether a number is the whole number v, however fine it is written.
+#[tactic(auto, unfolding(crate::specs::Numbers::exactly))]
 pub fn is_exactly(n: Number, v: u32) -> bool
     ensures { result ≡ exactly n v }
 {
-    let raw = n.raw;
-    if n.fine | (2147483648 < raw) {
+    if n.fine || LARGEST < n.raw {
         return false;
     }
-    (raw * scale(n.after) == (v as u64) * 1000000) & (!n.minus | (v == 0))
+    n.raw * scale(n.after) == v as u64 * MILLION && (!n.minus || v == 0)
 }

@@ -1,6 +1,7 @@
 // The lines of a listing.
 ghost use Rattle.std.specs.Prelude.{◌≡◌, ◌+◌, ◌*◌, ◌/◌, ◌≤◌, ◌++◌, length};
 ghost use Rattle.fixed.specs.Bytes.{blocks};
+ghost use Rattle.fixed.specs.Refusals.{number_of};
 ghost use Rattle.space.specs.Numbers.{kind_numbered};
 ghost use Rattle.space.specs.Pages.{space_at};
 ghost use Rattle.digits.specs.Texts.{text, over};
@@ -8,18 +9,21 @@ ghost use Rattle.lines.specs.Listing.{is_space, family_of, line_of, line_at, lin
 ghost use Rattle.digits.specs.Puts.{Put};
 
 use digits::{put_column, put_number, put_text};
-use page::{Verdict, validate};
+use fixed::Refused;
+use page::validate;
 use space::{components, kind};
 use tables::words;
 
 // Whether a block of this kind is a space: neither free, nor of a palette or a program.
+#[tactic(auto, unfolding(crate::specs::Listing::is_space))]
 fn is_space(k: u32) -> bool
     ensures { result ≡ is_space k }
 {
-    ((1 <= k) & (k <= 5)) | (k == 8)
+    matches!(k, 1..=5 | 8)
 }
 
 // Puts the family of a space, by its kind, and a space after it.
+// Kept: (out, at), as `Put` of digits says what stands where: a writer would have to say it of both.
 fn put_family(out: &mut [u8], at: usize, k: u32) -> usize
     requires { at + 11 ≤ longest }
     ensures { Put 11 out.old at (family_of k ++ text " ") out.new result }
@@ -62,10 +66,8 @@ fn put_lines(out: &mut [u8], at: usize, page: &[u8], n: u32) -> usize
     ensures { Put (44 * n) out.old at (lines_of page.now n) out.new result }
 {
     let mut next = at;
-    let mut i: u32 = 0;
-    while i < n {
+    for i in 0..n {
         next = put_block(out, next, page, i);
-        i += 1;
     }
     next
 }
@@ -82,13 +84,13 @@ fn put_accepted(out: &mut [u8], page: &[u8]) -> usize
 }
 
 // Puts the line of a page that is refused.
-fn put_refused(out: &mut [u8], number: u32, block: u32) -> usize
-    ensures { Put longest out.old 0 (refused_text number block) out.new result }
+fn put_refused(out: &mut [u8], refused: Refused) -> usize
+    ensures { Put longest out.old 0 (refused_text (number_of refused.refusal) refused.block) out.new result }
 {
     let a = put_text(out, 0, b"refused ");
-    let b = put_number(out, a, number);
+    let b = put_number(out, a, refused.refusal.number());
     let c = put_text(out, b, b" block ");
-    put_column(out, c, block, b'\n')
+    put_column(out, c, refused.block, b'\n')
 }
 
 // Puts the listing of a page at the start of `out`, and answers how many bytes it has. Where they are more than `out` has, the first of them are put; what the
@@ -98,9 +100,8 @@ pub fn list(page: &[u8], out: &mut [u8]) -> usize
     ensures put { out.new ≡ over (listing page.now) out.old }
     ensures short { result ≤ longest }
 {
-    let v = validate(page);
-    match v {
-        Verdict::Accepted => put_accepted(out, page),
-        Verdict::Refused { number, block } => put_refused(out, number, block),
+    match validate(page) {
+        Ok(()) => put_accepted(out, page),
+        Err(refused) => put_refused(out, refused),
     }
 }

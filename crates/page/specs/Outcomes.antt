@@ -1,7 +1,7 @@
 -- What validating a page comes to (FORMAT.md, Operations).
-use Rattle.std.specs.Prelude.{ℕ}
-use Rattle.page.specs.declared.Verdict.{Verdict}
-use Rattle.page.specs.declared.Verdict.TheVariants.{Accepted, Refused}
+use Rattle.std.specs.Prelude.{ℕ, Result, Ok, Err}
+use Rattle.fixed.specs.Refusals.{number_of}
+use Rattle.fixed.specs.declared.refusals.Refused.{Refused}
 
 -- accepted, or refused with a number and the block that it is about
 pub data Outcome : Type 0 where
@@ -13,7 +13,7 @@ abbrev pub and_then : Outcome → Outcome → Outcome
 and_then accepted next = next
 and_then (refused number block) next = refused number block
 
--- what each case of the enum `Verdict` says
-abbrev pub meaning : Verdict → Outcome
-meaning Accepted = accepted
-meaning (Refused number block) = refused number block
+-- what a `Result` says
+abbrev pub meaning : {A : Type 0} → Result A Refused → Outcome
+meaning (Ok _) = accepted
+meaning (Err e) = refused (number_of e.refusal) e.block

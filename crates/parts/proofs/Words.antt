@@ -50,15 +50,6 @@ module _ (s : Space) (c : Closing) (m : ℕ) (em : m ≡ limit_count s) (ec : c 
       then (limits_of s m) d at (at + 4 * m) (closing_words c) k eu ey ∙
       ap₂ (λ (j : ℕ) (e : Closing). sets d at (limits_of s j ++ closing_words e)) em ec
 
--- CalRGB's closing step, stored as its gammas and three rows of the matrix
-pub rgb-set : (d : List ℤ) (at : ℕ) {u x y z : List ℤ} (ga gb gc xa ya za xb yb zb xc yc zc : ℤ) → u ≡ sets d at (pos 8 ∷ ga ∷ gb ∷ gc ∷ [])
-    → x ≡ sets u (at + 4) (xa ∷ ya ∷ za ∷ []) → y ≡ sets x (at + 7) (xb ∷ yb ∷ zb ∷ []) → z ≡ sets y (at + 10) (xc ∷ yc ∷ zc ∷ [])
-    → z ≡ sets d at (pos 8 ∷ ga ∷ gb ∷ gc ∷ xa ∷ ya ∷ za ∷ xb ∷ yb ∷ zb ∷ xc ∷ yc ∷ zc ∷ [])
-rgb-set d at ga gb gc xa ya za xb yb zb xc yc zc eu ex ey ez =
-    let x' = then (pos 8 ∷ ga ∷ gb ∷ gc ∷ []) d at (at + 4) (xa ∷ ya ∷ za ∷ []) refl eu ex in
-    let y' = then (pos 8 ∷ ga ∷ gb ∷ gc ∷ xa ∷ ya ∷ za ∷ []) d at (at + 7) (xb ∷ yb ∷ zb ∷ []) refl x' ey in
-    then (pos 8 ∷ ga ∷ gb ∷ gc ∷ xa ∷ ya ∷ za ∷ xb ∷ yb ∷ zb ∷ []) d at (at + 10) (xc ∷ yc ∷ zc ∷ []) refl y' ez
-
 -- ---- Step 2, over a base s of m components
 
 module _ (page : List ℕ) (n h m : ℕ) (s : Space) (em : m ≡ count_of s) where

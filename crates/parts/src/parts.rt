@@ -12,36 +12,33 @@ ghost use Rattle.calculator.specs.Calculator.{code_after};
 ghost use Rattle.parts.specs.Parts.{row_words, tint_words, program_words};
 
 use crate::closings::put_closing;
-use crate::stores::{put3, put4, word_of};
+use crate::stores::{put, word_of};
 use calculator::{program_run, put_run};
 use cie::Closing;
-use fixed::{VALUES, over_one};
+use fixed::over_one;
 use form::{Tints, nearest_count};
 use record::{Ranges, Separation, entries_of};
-use space::{Level, count, highs, limit_count, lows, plain_highs, plain_lows};
+use space::{Bounds, Level, bounds_of, count, limit_count, plain_bounds};
 use tables::{entry, head_size};
 
-// The first `size` entries of the table of the Indexed block n, over a space of m components, whose ranges are from lo to hi; `table` has the values over 0..1.
+// The first `size` entries of the table of the Indexed block n, over a space of m components, whose ranges have these bounds; `table` has the values over 0..1.
+// Kept: `size` is how many entries the table has, and no length: the words lent have more.
 fn put_table(
     page: &[u8],
     table: &[u32],
     n: u16,
     m: u32,
-    lo: [i32; VALUES],
-    hi: [i32; VALUES],
+    bounds: Bounds,
     size: u32,
     words: &mut [i32],
     at: usize,
 )
     requires { (size ≤ entries) × (at + size ≤ length words.old) × (0 < m) × (m ≤ places) × OverOne table.now }
-    ensures { (s : Space) → Ranged s m lo hi → words.new ≡ sets words.old at (listed (entry_of page.now n s) size) }
+    ensures { (s : Space) → Ranged s m bounds.lo bounds.hi → words.new ≡ sets words.old at (listed (entry_of page.now n s) size) }
 {
-    let mut j: u32 = 0;
     let mut k: u32 = 0;
-    while j < size {
-        let x = entry(page, table, n, k as usize, lo, hi, j);
-        words[at + (j as usize)] = x;
-        j += 1;
+    for j in 0..size {
+        words[at + j as usize] = entry(page, table, n, k as usize, bounds, j);
         k += 1;
         if k == m {
             k = 0;
@@ -50,26 +47,16 @@ fn put_table(
 }
 
 // The same. The values over 0..1 are made where the first range ends at 1: a Lab's does not, and has no use for them.
-fn put_rows(
-    page: &[u8],
-    n: u16,
-    m: u32,
-    lo: [i32; VALUES],
-    hi: [i32; VALUES],
-    size: u32,
-    words: &mut [i32],
-    at: usize,
-)
+#[tactic(auto, unfolding(fixed::specs::Numbers::OverOne))]
+fn put_rows(page: &[u8], n: u16, m: u32, bounds: Bounds, size: u32, words: &mut [i32], at: usize)
     requires { (size ≤ entries) × (at + size ≤ length words.old) × (0 < m) × (m ≤ places) }
-    ensures { (s : Space) → Ranged s m lo hi → words.new ≡ sets words.old at (listed (entry_of page.now n s) size) }
+    ensures { (s : Space) → Ranged s m bounds.lo bounds.hi → words.new ≡ sets words.old at (listed (entry_of page.now n s) size) }
 {
-    if hi[0] == 1000000 {
-        let table = over_one();
-        put_table(page, &table, n, m, lo, hi, size, words, at);
+    if bounds.hi[0] == 1000000 {
+        put_table(page, &over_one(), n, m, bounds, size, words, at);
         return;
     }
-    let none = [0u32; 1];
-    put_table(page, &none[..0], n, m, lo, hi, size, words, at);
+    put_table(page, &[], n, m, bounds, size, words, at);
 }
 
 // The first m entries of C0 or C1.
@@ -77,25 +64,21 @@ fn put_entries(a: [i32; 4], m: u32, words: &mut [i32], at: usize)
     requires { (m ≤ widest) × (at + m ≤ length words.old) }
     ensures { words.new ≡ sets words.old at (listed (value a) m) }
 {
-    let mut j: usize = 0;
-    while j < m as usize {
-        let x = a[j];
-        words[at + j] = x;
-        j += 1;
-    }
+    put(words, at, &a[..m as usize]);
 }
 
-// The limits of the first m components, whose ranges are from lo to hi.
-fn put_limits(m: u32, lo: [i32; VALUES], hi: [i32; VALUES], words: &mut [i32], at: usize)
+// The limits of the first m components, whose ranges have these bounds.
+fn put_limits(m: u32, bounds: Bounds, words: &mut [i32], at: usize)
     requires { (m ≤ places) × (at + 4 * m ≤ length words.old) }
-    ensures { (s : Space) → Ends s lo hi → words.new ≡ sets words.old at (limits_of s m) }
+    ensures { (s : Space) → Ends s bounds.lo bounds.hi → words.new ≡ sets words.old at (limits_of s m) }
 {
-    let mut k: u32 = 0;
-    while k < m {
-        let w = word_of(k);
+    for k in 0..m {
         let i = k as usize;
-        put4(words, at + 4 * i, 1, w, lo[i], hi[i]);
-        k += 1;
+        put(
+            words,
+            at + 4 * i,
+            &[1, word_of(k), bounds.lo[i], bounds.hi[i]],
+        );
     }
 }
 
@@ -105,8 +88,8 @@ pub fn put_ends(c: Closing, q: Ranges, words: &mut [i32], at: usize)
     ensures { words.new ≡ sets words.old at (ends_of (plain_in c q)) }
 {
     let m = limit_count(c);
-    put_limits(m, plain_lows(c, q), plain_highs(c, q), words, at);
-    put_closing(c, words, at + 4 * (m as usize));
+    put_limits(m, plain_bounds(c, q), words, at);
+    put_closing(c, words, at + 4 * m as usize);
 }
 
 // Step 2 of the Indexed block n over its base s, from `at` on; the place after it.
@@ -117,13 +100,13 @@ pub fn put_row(page: &[u8], n: u16, hival: u16, s: Level, words: &mut [i32], at:
 {
     let m = count(s);
     let h = hival as u32;
-    put3(words, at, 2, word_of(m), word_of(h));
+    put(words, at, &[2, word_of(m), word_of(h)]);
     if m == 0 {
         return at + 3;
     }
     let size = m * (h + 1);
-    put_rows(page, n, m, lows(s), highs(s), size, words, at + 3);
-    at + 3 + (size as usize)
+    put_rows(page, n, m, bounds_of(s), size, words, at + 3);
+    at + 3 + size as usize
 }
 
 // Step 3 of a Separation over an alternate of m components, from `at` on; the place after it.
@@ -132,13 +115,10 @@ pub fn put_tint(p: Separation, m: u32, words: &mut [i32], at: usize) -> usize
     ensures stores { words.new ≡ sets words.old at (tint_words p m) }
     ensures next { result ≡ at + length (tint_words p m) }
 {
-    let c0 = p.c0;
-    let c1 = p.c1;
-    let e = word_of(p.exponent as u32);
-    put3(words, at, 3, e, word_of(m));
-    put_entries(entries_of(c0), m, words, at + 3);
-    put_entries(entries_of(c1), m, words, at + 3 + (m as usize));
-    at + 3 + 2 * (m as usize)
+    put(words, at, &[3, word_of(p.exponent as u32), word_of(m)]);
+    put_entries(entries_of(p.c0), m, words, at + 3);
+    put_entries(entries_of(p.c1), m, words, at + 3 + m as usize);
+    at + 3 + 2 * m as usize
 }
 
 // The words before a program's flat form: 12, or 13 and how many values it takes, then how many numbers it leaves, and how many words follow.
@@ -147,13 +127,8 @@ fn put_head(tints: Tints, m: i32, size: i32, words: &mut [i32], at: usize)
     ensures { words.new ≡ sets words.old at (head_words tints ++ (m ∷ size ∷ [])) }
 {
     match tints {
-        Tints::One => {
-            put3(words, at, 12, m, size);
-        }
-        Tints::Inks(n) => {
-            let t = word_of(nearest_count(n));
-            put4(words, at, 13, t, m, size);
-        }
+        Tints::One => put(words, at, &[12, m, size]),
+        Tints::Inks(n) => put(words, at, &[13, word_of(nearest_count(n)), m, size]),
     }
 }
 

@@ -3,5 +3,6 @@ pub mod Waiting
 pub mod Spelled
 pub mod Whole
 pub mod Compiled
-pub mod Puts
+pub mod Open
 pub mod Taken
+pub mod Zero

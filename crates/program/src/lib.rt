@@ -4,13 +4,12 @@
 mod braces;
 mod compiling;
 mod counts;
-mod kept;
+mod state;
 mod tokens;
-mod types;
 mod words;
 
-pub use compiling::compile;
-pub use types::Built;
+pub use compiling::{compile, text_end};
+pub use words::Words;
 
 // Room for the words of any text: a token gives at most two.
 pub const ROOM: usize = 2 * fixed::TOKENS;

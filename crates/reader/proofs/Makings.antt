@@ -13,10 +13,6 @@ use Rattle.reader.specs.declared.types.Head.{Head}
 use Rattle.reader.specs.Spaces.{name_of, body_of, record_of, start_of}
 use Rattle.reader.specs.Kept.{top_of, deep_of, frames_at, parser_at}
 
--- all of a list is held where it is shorter
-pub held_all : (l : List ℕ) (n : ℕ) → length l ≤ n → take (length l) l ≡ take n l
-held_all l n h = take_all (length l) l (omega arith) ∙ sym (take_all n l h)
-
 module _ (h : Head) (marks names : List ℕ) (x n : ℕ) (top : x ≡ top_of h) (deep : n ≡ deep_of h) where
   -- the record of the space that closes
   pub made-record : (values : List ℤ) (opens page : List ℕ) (len : ℕ) {y : Body} {b : List ℕ} → len ≡ length (name_of (frames_at marks names x n))

@@ -1,52 +1,39 @@
--- A room of 504 bytes filled byte by byte, and brackets noted one by one.
+-- A room of 504 bytes, and a part of a list that is written.
 use mathlib.Core.Path.{◌≡◌, refl, sym, ap, ◌∙◌}
 use mathlib.Core.List.{List, [], ◌∷◌, ◌++◌}
-use Prim.Native.Nat.{ℕ, zero, suc, ◌+◌, ◌-◌, ◌≤◌, ◌<◌}
+use mathlib.Core.Logic.{◌⊎◌, inl, inr, ⊎_elim}
+use Prim.Native.Nat.{ℕ, zero, suc, ◌+◌, ◌≤◌, ◌<◌}
 use native.Mathlib.Omega.{arith}
-use lib.ListN.{length, get_or, set, take, drop, replicate, length-drop, length-replicate, replicate-append-replicate}
-use lib.Seq.{sets, length-take-le, take-suc, get_or-drop, get_or-take, take_all}
-use Rattle.fixed.proofs.Stores.{sets-append}
+use borrow.Rule.Slice.PartMut.{put_mid}
+use lib.ListN.{length, take, drop, replicate}
+use lib.Seq.{sets, sets-eq, take_all}
+use Rattle.std.proofs.lemmas.Slice.{put_mid-paste}
 use Rattle.layout.specs.Field.{padded}
+use Rattle.keys.proofs.Masks.{split as keys_split}
 
-pub padded-set : (n : ℕ) (l : List ℕ) (v : ℕ) → length l < n → set (padded n l) (length l) v ≡ padded n (l ++ (v ∷ []))
+padded_none : (m : ℕ) → replicate m 0 ≡ padded m []
 unfolding padded
-padded-set zero l v h = absurd (omega arith)
-padded-set (suc n) [] v h = refl
-padded-set (suc n) (x ∷ l) v h = ap (λ (t : List ℕ). x ∷ t) (padded-set n l v (omega arith))
+padded_none zero = refl
+padded_none (suc m) = ap (λ (t : List ℕ). 0 ∷ t) (padded_none m)
 
-pub padded-take : (n : ℕ) (l : List ℕ) → padded n (take n l) ≡ padded n l
+-- as many bytes as there are, or as there is room for, and zeros
+pub room_filled : (m n : ℕ) (s : List ℕ) → n ≤ length s → n ≤ m → (length s ≤ n) ⊎ (m ≤ n) → take n s ++ drop n (replicate m 0) ≡ padded m s
 unfolding padded
-padded-take zero l = refl
-padded-take (suc n) [] = refl
-padded-take (suc n) (x ∷ l) = ap (λ (t : List ℕ). x ∷ t) (padded-take n l)
+room_filled zero zero s h k e = refl
+room_filled zero (suc n) s h k e = absurd (omega arith)
+room_filled (suc m) zero [] h k e = padded_none (suc m)
+room_filled (suc m) zero (x ∷ s) h k e = absurd (⊎_elim (λ (z : length (x ∷ s) ≤ 0). omega arith) (λ (z : suc m ≤ 0). omega arith) e)
+room_filled (suc m) (suc n) [] h k e = absurd (omega arith)
+room_filled (suc m) (suc n) (x ∷ s) h k e =
+    ap (λ (t : List ℕ). x ∷ t)
+    (room_filled m n s (omega arith) (omega arith) (⊎_elim (λ (z : length (x ∷ s) ≤ suc n). inl (omega arith)) (λ (z : suc m ≤ suc n). inr (omega arith)) e))
 
-module _ (s : List ℕ) (from to : ℕ) (h : to ≤ length s) where
-  part_length : length (drop from (take to s)) ≡ to - from
-  part_length = length-drop from (take to s) ∙ ap (λ (n : ℕ). n - from) (length-take-le to s h)
+-- one of two orders
+pub split : (a b : ℕ) → (a < b) ⊎ (b ≤ a)
+split = keys_split
 
-  -- one byte more, and none more
-  pub room-turn : (i : ℕ) {x : List ℕ} → i < 504 → from + i < to → x ≡ padded 504 (take i (drop from (take to s)))
-      → set x i (get_or s (from + i) 0) ≡ padded 504 (take (i + 1) (drop from (take to s)))
-  room-turn i {x} p q e =
-      let t = drop from (take to s) in
-      let r : i < length t = omega (arith, part_length) in
-      let k : length (take i t) ≡ i = length-take-le i t (omega arith) in
-      let o : length (take i t) < 504 = omega arith in
-      let g : get_or t i 0 ≡ get_or s (from + i) 0 = get_or-drop from (take to s) i 0 ∙ get_or-take to s (from + i) 0 q in
-      let f : i + 1 ≡ suc i = omega arith in
-      (λ j. set (e j) (sym k j) (sym g j)) ∙ padded-set 504 (take i t) (get_or t i 0) o
-      ∙ ap (padded 504) (sym (take-suc t i 0 r)) ∙ ap (λ (n : ℕ). padded 504 (take n t)) (sym f)
-
-  pub room-rest : (i : ℕ) {x : List ℕ} → to ≤ from + i → x ≡ padded 504 (take i (drop from (take to s)))
-      → x ≡ padded 504 (take (i + 1) (drop from (take to s)))
-  room-rest i q e =
-      let t = drop from (take to s) in
-      let r : length t ≤ i = omega (arith, part_length) in
-      e ∙ ap (padded 504) (take_all i t r ∙ sym (take_all (i + 1) t (omega arith)))
-
--- the same number noted again
-pub opens-turn : (d : List ℕ) (own j at : ℕ) {x : List ℕ} → x ≡ sets d own (replicate j at) → set x (own + j) at ≡ sets d own (replicate (j + 1) at)
-opens-turn d own j at e =
-    ap (λ (l : List ℕ). set l (own + j) at) e
-    ∙ ap (λ (k : ℕ). set (sets d own (replicate j at)) (own + k) at) (sym (length-replicate {A = ℕ} j at))
-    ∙ sets-append (replicate j at) d own (at ∷ []) ∙ ap (sets d own) (replicate-append-replicate j 1 at)
+-- a part that is written is so many elements stored
+pub put-sets : (xs : List ℕ) (a k : ℕ) {ys zs : List ℕ} → ys ≡ zs → k ≡ length zs → a + k ≤ length xs → put_mid a k xs ys ≡ sets xs a zs
+put-sets xs a k {ys} {zs} e l o =
+    put_mid-paste a k xs ys zs k e refl l
+    ∙ (λ i. take a xs ++ take_all k zs (omega arith) i ++ drop (a + l i) xs) ∙ sym (sets-eq zs xs a (omega arith))

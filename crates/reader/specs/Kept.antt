@@ -1,10 +1,13 @@
 -- FORMAT.md, Designers' texts: what is kept between two calls: a struct and lists that the caller lends. Every such
 -- memory is a state.
-use Rattle.std.specs.Prelude.{◌≡◌, ℕ, zero, suc, ◌+◌, ◌-◌, ◌*◌, ◌%◌, cond, List, [], ◌∷◌, eqb, leb, ℤ, get_or, take, drop}
+use Rattle.std.specs.Prelude.{◌≡◌, ℕ, zero, suc, ◌+◌, ◌-◌, ◌*◌, ◌%◌, cond, List, [], ◌∷◌, eqb, leb, ℤ, get_or, take, drop, Result, Ok, Err}
 use Rattle.fixed.specs.Bytes.{blocks}
+use Rattle.fixed.specs.Refusals.{number_of}
+use Rattle.fixed.specs.declared.refusals.Refusal.{Refusal}
 use Rattle.lexer.specs.Scans.{Taken, takes, refuses}
 use Rattle.reader.specs.declared.types.Head.{Head}
-use Rattle.reader.specs.declared.types.Took.{Took}
+use Rattle.reader.specs.declared.types.Sort.{Sort}
+use Rattle.reader.specs.declared.types.Sort.TheVariants.{Keyword, Name, Number, Text, ArrayOpens, ArrayCloses, DictOpens, DictCloses}
 use Rattle.reader.specs.Spaces.{Frame, Made, Parser, with}
 
 -- places in a ring for the open spaces: in `marks` the bracket of each, in `names` the length of its name and 127 bytes
@@ -44,12 +47,23 @@ parser_at h values marks names opens page =
     with h.want h.kind h.entry values h.inner (frames_at marks names (top_of h) (deep_of h)) (made_at h.next opens page)
 
 -- what a token comes to, where these lists are lent
-unfoldable pub took_at : Took → List ℤ → List ℕ → List ℕ → List ℕ → List ℕ → Taken Parser
-took_at r values marks names opens page =
-    cond (eqb r.refusal 0) (takes (parser_at r.head values marks names opens page)) (refuses r.refusal)
+abbrev pub took_at : Result Head Refusal → List ℤ → List ℕ → List ℕ → List ℕ → List ℕ → Taken Parser
+took_at (Ok h) values marks names opens page = takes (parser_at h values marks names opens page)
+took_at (Err r) values marks names opens page = refuses (number_of r)
 
 -- a token that alters no list comes to f, whatever lists are lent
-abbrev pub Turns : Head → Took → (Parser → Taken Parser) → Type 0
+abbrev pub Turns : Head → Result Head Refusal → (Parser → Taken Parser) → Type 0
 Turns h r f =
     (values : List ℤ) (marks names opens page : List ℕ) →
     took_at r values marks names opens page ≡ f (parser_at h values marks names opens page)
+
+-- the number of a sort of token
+abbrev pub sorted : Sort → ℕ
+sorted Keyword = 0
+sorted Name = 1
+sorted Number = 2
+sorted Text = 3
+sorted ArrayOpens = 4
+sorted ArrayCloses = 5
+sorted DictOpens = 6
+sorted DictCloses = 7

@@ -4,104 +4,99 @@ ghost use Rattle.lexical.specs.Numbers.{fits, millionths};
 ghost use Rattle.lexer.specs.Scans.{scan_at};
 ghost use Rattle.keys.specs.Entries.{length_of};
 ghost use Rattle.reader.specs.Spaces.{palette_size};
-ghost use Rattle.reader.specs.Kept.{parser_at, took_at, Turns};
+ghost use Rattle.reader.specs.Kept.{parser_at, sorted, took_at, Turns};
 ghost use Rattle.reader.specs.Tokens.{took_dict, took_name, took_end, took_key, took_number, took_value, took_items, took_hival, took_lookup};
-ghost use Rattle.reader.specs.declared.types.Want.TheVariants.{Key, Items};
 
-use crate::heads::{
-    ARRAY_CLOSES, ARRAY_OPENS, DICT_CLOSES, DICT_OPENS, NAME, NUMBER, TEXT, refuse, wants,
-    with_entry, with_inner,
-};
 use crate::making::held;
-use crate::types::{Entry, Head, Inner, Took, Want};
+use crate::types::{Entry, Head, Inner, Sort, Want};
+use fixed::Refusal;
 use keys::{entries, names};
 use lexer::Lexer;
 use lexical::Number;
 
 // `<<`: every value at its default.
-pub fn take_dict(h: Head, t: u32, values: &mut [i32]) -> Took
+#[tactic(auto, unfolding(crate::specs::Tokens::took_dict, crate::specs::Tokens::begins))]
+pub fn take_dict(h: Head, t: Sort, values: &mut [i32]) -> Result<Head, Refusal>
     requires { length values.old ≡ 30 }
-    ensures { (marks names opens page : List ℕ) → took_at result values.new marks names opens page ≡ took_dict (parser_at h values.old marks names opens page) t }
+    ensures { (marks names opens page : List ℕ) → took_at result values.new marks names opens page ≡ took_dict (parser_at h values.old marks names opens page) (sorted t) }
 {
-    if t == DICT_OPENS {
-        entries::reset(values);
-        let e = Entry {
-            key: 0,
-            index: 0,
-            mask: 0,
-            exponent: 1,
-        };
-        return with_entry(h, Want::Key, e);
+    match t {
+        Sort::DictOpens => {
+            entries::reset(values);
+            let entry = Entry {
+                key: 0,
+                index: 0,
+                mask: 0,
+                exponent: 1,
+            };
+            Ok(Head {
+                want: Want::Key,
+                entry,
+                ..h
+            })
+        }
+        _ => Err(Refusal::Syntax),
     }
-    refuse(h, 12)
 }
 
 // A key.
-fn take_name(h: Head, key: u32) -> Took
+#[tactic(auto, unfolding(crate::specs::Tokens::took_name, crate::specs::Tokens::keyed))]
+fn take_name(h: Head, key: u32) -> Result<Head, Refusal>
     requires { key ≤ 10 }
     ensures { Turns h result (λ a. took_name a key) }
 {
-    let e = h.entry;
-    let kind = h.kind;
-    let met = entries::is_met(e.mask, key);
-    if met {
-        return refuse(h, 14);
+    let met = entries::is_met(h.entry.mask, key);
+    if met || !entries::has_key(h.kind, key) {
+        return Err(Refusal::Key);
     }
-    if !entries::has_key(kind, key) {
-        return refuse(h, 14);
-    }
-    let f = Entry {
-        key: key,
+    let entry = Entry {
+        key,
         index: 0,
-        mask: entries::with_key(e.mask, key),
-        exponent: e.exponent,
+        mask: entries::with_key(h.entry.mask, key),
+        ..h.entry
     };
-    with_entry(h, Want::Value, f)
+    Ok(Head {
+        want: Want::Value,
+        entry,
+        ..h
+    })
 }
 
 // `>>`.
-fn take_end(h: Head) -> Took
+#[tactic(auto, unfolding(crate::specs::Tokens::took_end))]
+fn take_end(h: Head) -> Result<Head, Refusal>
     ensures { Turns h result took_end }
 {
-    let e = h.entry;
-    let i = h.inner;
-    if entries::is_complete(h.kind, i.count, e.mask) {
-        return wants(h, Want::Shut);
+    if !entries::is_complete(h.kind, h.inner.count, h.entry.mask) {
+        return Err(Refusal::Key);
     }
-    refuse(h, 14)
+    Ok(Head {
+        want: Want::Shut,
+        ..h
+    })
 }
 
 // A key or `>>`.
-pub fn take_key(h: Head, l: Lexer, t: u32, word: &[u8]) -> Took
-    ensures { Turns h result (λ a. took_key a (scan_at l word.now) t) }
+#[tactic(auto, unfolding(crate::specs::Tokens::took_key))]
+pub fn take_key(h: Head, l: Lexer, t: Sort, word: &[u8]) -> Result<Head, Refusal>
+    ensures { Turns h result (λ a. took_key a (scan_at l word.now) (sorted t)) }
 {
-    if t == NAME {
-        let n = held(word, l.size);
-        return take_name(h, names::key_named(&word[..n]));
+    match t {
+        Sort::Name => {
+            let key = names::key_named(held(word, l.size));
+            take_name(h, u32::from(key.unwrap_or(0)))
+        }
+        Sort::DictCloses => take_end(h),
+        _ => Err(Refusal::Syntax),
     }
-    if t == DICT_CLOSES {
-        return take_end(h);
-    }
-    refuse(h, 12)
 }
 
 // How many numbers the value in hand is, or 0.
+// Kept: 0 for a value with no brackets, as `length_of` of keys has it.
 fn wanted(h: Head) -> u32
     ensures { result ≡ length_of h.kind h.inner.count h.entry.key }
 {
-    let e = h.entry;
-    let i = h.inner;
-    entries::length_of(h.kind, i.count, e.key)
-}
-
-// What comes after a number of a value of n.
-fn next_item(n: u32) -> Want
-    ensures { result ≡ cond (eqb n 0) Key Items }
-{
-    if n == 0 {
-        return Want::Key;
-    }
-    Want::Items
+    entries::length_of(h.kind, h.inner.count, h.entry.key)
 }
 
 // Stores a value, where it has a place.
@@ -118,90 +113,85 @@ fn exponent_of(key: u32, n: Number, e: u8) -> u8
     requires { (fits n ≡ true) × (key ≡ 10 → millionths n / 1000000 ≤ 255) }
     ensures { result ≡ cond (eqb key 10) (millionths n / 1000000) e }
 {
-    if key == 10 {
-        return lexical::whole(n) as u8;
+    match key {
+        10 => lexical::whole(n) as u8,
+        _ => e,
     }
-    e
 }
 
 // A number of a value.
-fn take_number(h: Head, n: Number, values: &mut [i32]) -> Took
+#[tactic(auto, unfolding(crate::specs::Tokens::took_number, crate::specs::Tokens::valued))]
+fn take_number(h: Head, n: Number, values: &mut [i32]) -> Result<Head, Refusal>
     ensures { (marks names opens page : List ℕ) → took_at result values.new marks names opens page ≡ took_number (parser_at h values.old marks names opens page) n }
 {
     let e = h.entry;
-    let fault = entries::number_fault(e.key, e.index, n);
-    if fault != 0 {
-        return refuse(h, fault);
-    }
-    let p = entries::place_of(e.key);
-    let k = e.index as usize;
-    put_value(values, p + k, lexical::value_of(n));
-    let x = exponent_of(e.key, n, e.exponent);
-    let f = Entry {
-        key: e.key,
+    entries::number_fault(e.key, e.index, n)?;
+    let at = entries::place_of(e.key) + e.index as usize;
+    put_value(values, at, lexical::value_of(n));
+    let entry = Entry {
         index: lexer::deeper(e.index),
-        mask: e.mask,
-        exponent: x,
+        exponent: exponent_of(e.key, n, e.exponent),
+        ..e
     };
-    with_entry(h, next_item(wanted(h)), f)
+    let want = match wanted(h) {
+        0 => Want::Key,
+        _ => Want::Items,
+    };
+    Ok(Head { want, entry, ..h })
 }
 
 // A value: a number, or `[`.
-pub fn take_value(h: Head, t: u32, n: Number, values: &mut [i32]) -> Took
-    ensures { (marks names opens page : List ℕ) → took_at result values.new marks names opens page ≡ took_value (parser_at h values.old marks names opens page) t n }
+#[tactic(auto, unfolding(crate::specs::Tokens::took_value))]
+pub fn take_value(h: Head, t: Sort, n: Number, values: &mut [i32]) -> Result<Head, Refusal>
+    ensures { (marks names opens page : List ℕ) → took_at result values.new marks names opens page ≡ took_value (parser_at h values.old marks names opens page) (sorted t) n }
 {
-    let m = wanted(h);
-    if m == 0 {
-        if t == NUMBER {
-            return take_number(h, n, values);
-        }
-        return refuse(h, 12);
+    let single = wanted(h) == 0;
+    match t {
+        Sort::Number if single => take_number(h, n, values),
+        Sort::ArrayOpens if !single => Ok(Head {
+            want: Want::Items,
+            ..h
+        }),
+        _ => Err(Refusal::Syntax),
     }
-    if t == ARRAY_OPENS {
-        return wants(h, Want::Items);
-    }
-    refuse(h, 12)
 }
 
 // A number of an array, or `]`.
-pub fn take_item(h: Head, t: u32, n: Number, values: &mut [i32]) -> Took
-    ensures { (marks names opens page : List ℕ) → took_at result values.new marks names opens page ≡ took_items (parser_at h values.old marks names opens page) t n }
+#[tactic(auto, unfolding(crate::specs::Tokens::took_items))]
+pub fn take_item(h: Head, t: Sort, n: Number, values: &mut [i32]) -> Result<Head, Refusal>
+    ensures { (marks names opens page : List ℕ) → took_at result values.new marks names opens page ≡ took_items (parser_at h values.old marks names opens page) (sorted t) n }
 {
-    let e = h.entry;
-    let m = wanted(h);
-    if e.index < m {
-        if t == NUMBER {
-            return take_number(h, n, values);
-        }
-        return refuse(h, 12);
+    let more = h.entry.index < wanted(h);
+    match t {
+        Sort::Number if more => take_number(h, n, values),
+        Sort::ArrayCloses if !more => Ok(Head {
+            want: Want::Key,
+            ..h
+        }),
+        _ => Err(Refusal::Syntax),
     }
-    if t == ARRAY_CLOSES {
-        return wants(h, Want::Key);
-    }
-    refuse(h, 12)
 }
 
 // An Indexed space's hival.
-pub fn take_hival(h: Head, t: u32, n: Number) -> Took
-    ensures { Turns h result (λ a. took_hival a t n) }
+#[tactic(auto, unfolding(crate::specs::Tokens::took_hival, crate::specs::Tokens::with_hival))]
+pub fn take_hival(h: Head, t: Sort, n: Number) -> Result<Head, Refusal>
+    ensures { Turns h result (λ a. took_hival a (sorted t) n) }
 {
-    if t != NUMBER {
-        return refuse(h, 12);
+    if t != Sort::Number {
+        return Err(Refusal::Syntax);
     }
     if !lexical::number_fits(n) {
-        return refuse(h, 13);
+        return Err(Refusal::TextNumber);
     }
     if !lexical::is_whole(n, 0, 255) {
-        return refuse(h, 4);
+        return Err(Refusal::ClauseRule);
     }
-    let i = h.inner;
-    let v = lexical::whole(n);
-    let j = Inner {
-        count: i.count,
-        code: i.code,
-        hival: v as u16,
-    };
-    with_inner(h, Want::Lookup, j)
+    let hival = lexical::whole(n) as u16;
+    Ok(Head {
+        want: Want::Lookup,
+        inner: Inner { hival, ..h.inner },
+        ..h
+    })
 }
 
 // The bytes of the palette.
@@ -209,20 +199,22 @@ pub fn palette_size(i: Inner) -> u32
     ensures is { result ≡ palette_size i }
     ensures small { result ≤ 16711680 }
 {
-    (i.count as u32) * ((i.hival as u32) + 1)
+    u32::from(i.count) * (u32::from(i.hival) + 1)
 }
 
 // Its palette.
-pub fn take_lookup(h: Head, l: Lexer, t: u32) -> Took
-    ensures { (word : List ℕ) → Turns h result (λ a. took_lookup a (scan_at l word) t) }
+#[tactic(auto, unfolding(crate::specs::Tokens::took_lookup))]
+pub fn take_lookup(h: Head, l: Lexer, t: Sort) -> Result<Head, Refusal>
+    ensures { (word : List ℕ) → Turns h result (λ a. took_lookup a (scan_at l word) (sorted t)) }
 {
-    if t != TEXT {
-        return refuse(h, 12);
+    if t != Sort::Text {
+        return Err(Refusal::Syntax);
     }
-    let i = h.inner;
-    let n = palette_size(i);
-    if l.size != n {
-        return refuse(h, 7);
+    if l.size != palette_size(h.inner) {
+        return Err(Refusal::RunOrSpareEntry);
     }
-    wants(h, Want::Shut)
+    Ok(Head {
+        want: Want::Shut,
+        ..h
+    })
 }

@@ -19,10 +19,7 @@ pub fn depth(deep: u8) -> u8
     ensures is { result ≡ cond (leb deep ring) deep ring }
     ensures small { result ≤ ring }
 {
-    if deep <= RING {
-        return deep;
-    }
-    RING
+    deep.min(RING)
 }
 
 // The place before one.
@@ -31,10 +28,10 @@ pub fn before_slot(x: u8) -> u8
     ensures is { result ≡ before_slot x }
     ensures small { result < ring }
 {
-    if x == 0 {
-        return RING - 1;
+    match x {
+        0 => RING - 1,
+        _ => x - 1,
     }
-    x - 1
 }
 
 // The place after one.
@@ -43,10 +40,7 @@ pub fn after_slot(x: u8) -> u8
     ensures is { result ≡ after_slot x }
     ensures small { result < ring }
 {
-    if x == RING - 1 {
-        return 0;
-    }
-    x + 1
+    if x == RING - 1 { 0 } else { x + 1 }
 }
 
 // A space opens in the place after x.
@@ -62,6 +56,7 @@ pub fn open_slot(marks: &mut [u32], names: &mut [u8], x: u8, at: u32)
 }
 
 // The space at place x gets the first n bytes of word as its name.
+// Kept: n beside word, for it is stored as the byte before the name.
 pub fn name_slot(names: &mut [u8], x: u8, word: &[u8], n: u8)
     requires { (x < ring) × ((length names.old ≡ 128 * ring) × ((n ≤ 127) × (n ≤ length word.now))) }
     ensures { (marks : List ℕ) (k : ℕ) → k < ring → frames_at marks names.new x (suc k) ≡ named (take n word.now) (frames_at marks names.old x (suc k)) }
@@ -69,14 +64,11 @@ pub fn name_slot(names: &mut [u8], x: u8, word: &[u8], n: u8)
     let at = 128 * (x as usize);
     let m = n as usize;
     names[at] = n;
-    let mut i: usize = 0;
-    while i < m {
-        names[at + 1 + i] = word[i];
-        i += 1;
-    }
+    names[at + 1..at + 1 + m].copy_from_slice(&word[..m]);
 }
 
 // How long the name of the innermost of n spaces is, which stands at place x; 0 where there is none.
+// Kept: 0 is the length of the name of no space, by the definition `name_of`.
 pub fn name_length(names: &[u8], x: u8, n: u8) -> u8
     requires { (x < ring) × (length names.now ≡ 128 * ring) }
     ensures is { (marks : List ℕ) → result ≡ length (name_of (frames_at marks names.now x n)) }
@@ -90,6 +82,7 @@ pub fn name_length(names: &[u8], x: u8, n: u8) -> u8
 }
 
 // Its opening bracket, 0 where there is none.
+// Kept: 0 as in the definition `start_of`, and the place of a text that has no space open.
 pub fn start_of(marks: &[u32], x: u8, n: u8) -> u32
     requires { (x < ring) × (length marks.now ≡ ring) }
     ensures { (names : List ℕ) → result ≡ start_of (frames_at marks.now names x n) }

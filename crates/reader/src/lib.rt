@@ -8,4 +8,4 @@ pub mod making;
 pub mod opening;
 mod types;
 
-pub use types::{Entry, Head, Inner, Took, Want};
+pub use types::{Entry, Head, Inner, Sort, Want};

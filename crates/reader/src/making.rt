@@ -25,12 +25,7 @@ fn ranges_in(v: &[i32], k: usize) -> Ranges
     requires { k + 4 ≤ length v.now }
     ensures { result ≡ ranges_in v.now k }
 {
-    Ranges {
-        amin: v[k],
-        amax: v[k + 1],
-        bmin: v[k + 2],
-        bmax: v[k + 3],
-    }
+    Ranges::from(four_in(v, k))
 }
 
 fn four_in(v: &[i32], k: usize) -> Four
@@ -109,6 +104,7 @@ fn ink_in(v: &[i32], code: u16, exponent: u8, n: u8) -> Body
 }
 
 // The body of a space's record.
+#[tactic(auto, unfolding(crate::specs::Spaces::body_of))]
 pub fn body_of(kind: u8, inner: Inner, entry: Entry, v: &[i32], n: u8) -> Body
     requires { length v.now ≡ 30 }
     ensures { result ≡ body_of kind inner entry v.now n }
@@ -125,32 +121,26 @@ pub fn body_of(kind: u8, inner: Inner, entry: Entry, v: &[i32], n: u8) -> Body
     }
 }
 
-// The bytes from `from` to below `to`, 504 at the most, with zeros past them.
-pub fn room_of(s: &[u8], from: usize, to: usize) -> [u8; 504]
-    requires { (to ≤ length s.now) × (from ≤ 65536) }
-    ensures { result ≡ padded 504 (drop from (take to s.now)) }
+// The first 504 bytes, with zeros past them.
+pub fn room_of(s: &[u8]) -> [u8; 504]
+    ensures { result ≡ padded 504 s.now }
 {
+    let n = s.len().min(504);
     let mut bytes = [0u8; 504];
-    let mut i: usize = 0;
-    while i < 504 {
-        if from + i < to {
-            bytes[i] = s[from + i];
-        }
-        i += 1;
-    }
+    bytes[..n].copy_from_slice(&s[..n]);
     bytes
 }
 
-// A part of a palette, from byte `from` of a string of n bytes on.
-pub fn palette_of(word: &[u8], own: usize, from: usize, n: usize) -> Record
-    requires { (own ≤ 65535) × ((n ≤ length word.now) × (from ≤ 65536)) }
-    ensures { result ≡ palette_of own (drop from (take n word.now)) }
+// A part of a palette, as block number own.
+#[tactic(auto, unfolding(crate::specs::Spaces::palette_of))]
+pub fn palette_of(part: &[u8], own: usize) -> Record
+    requires { own ≤ 65535 }
+    ensures { result ≡ palette_of own part.now }
 {
-    let bytes = room_of(word, from, n);
     Record {
         own: own as u16,
         body: Body::Palette,
-        bytes,
+        bytes: room_of(part),
     }
 }
 
@@ -159,23 +149,14 @@ pub fn put_opens(opens: &mut [u32], own: usize, k: usize, at: u32)
     requires { own + k ≤ length opens.old }
     ensures { opens.new ≡ sets opens.old own (replicate k at) }
 {
-    let mut j: usize = 0;
-    while j < k {
-        opens[own + j] = at;
-        j += 1;
-    }
+    opens[own..own + k].fill(at);
 }
 
-// How many bytes of a name or string of n bytes are held.
-pub fn held(word: &[u8], n: u32) -> usize
-    ensures is { take result word.now ≡ take n word.now }
-    ensures within { result ≤ length word.now }
+// What is held of a name or string of n bytes.
+pub fn held(word: &[u8], n: u32) -> &[u8]
+    ensures { result.now ≡ take n word.now }
 {
-    let m = n as usize;
-    if m < word.len() {
-        return m;
-    }
-    word.len()
+    &word[..word.len().min(n as usize)]
 }
 
 // The record of the space that closes.
@@ -186,11 +167,9 @@ pub fn record_of(h: Head, values: &[i32], names: &[u8]) -> Record
     let x = frames::slot(h.top);
     let n = frames::depth(h.deep);
     let len = frames::name_length(names, x, n);
-    let e = h.entry;
-    let i = h.inner;
     let from = 128 * (x as usize) + 1;
-    let body = body_of(h.kind, i, e, values, len);
-    let bytes = room_of(names, from, from + (len as usize));
+    let body = body_of(h.kind, h.inner, h.entry, values, len);
+    let bytes = room_of(&names[from..from + len as usize]);
     Record {
         own: h.next as u16,
         body,

@@ -1,7 +1,7 @@
 // What is read so far of a designer's text, as far as it is passed by value.
 
 // What the next token may be.
-#[derive(Clone, Copy)]
+#[derive(Clone, Copy, Debug, PartialEq, Eq)]
 pub enum Want {
     Top,
     Family,
@@ -16,8 +16,21 @@ pub enum Want {
     Ink,
 }
 
+// The sorts of token. A keyword may stand nowhere.
+#[derive(Clone, Copy, Debug, PartialEq, Eq)]
+pub enum Sort {
+    Keyword,
+    Name,
+    Number,
+    Text,
+    ArrayOpens,
+    ArrayCloses,
+    DictOpens,
+    DictCloses,
+}
+
 // The entry of a dictionary that is read: its key, how many of its numbers were read, which keys were met, and the exponent.
-#[derive(Clone, Copy)]
+#[derive(Clone, Copy, Debug, PartialEq, Eq)]
 pub struct Entry {
     pub key: u32,
     pub index: u32,
@@ -26,7 +39,7 @@ pub struct Entry {
 }
 
 // The inner space: its count of components and its reference; and the hival of the Indexed space around it.
-#[derive(Clone, Copy)]
+#[derive(Clone, Copy, Debug, PartialEq, Eq)]
 pub struct Inner {
     pub count: u8,
     pub code: u16,
@@ -34,7 +47,7 @@ pub struct Inner {
 }
 
 // Between two tokens: what may stand next, the kind of the space, how many blocks are made, and the ring of open spaces.
-#[derive(Clone, Copy)]
+#[derive(Clone, Copy, Debug, PartialEq, Eq)]
 pub struct Head {
     pub want: Want,
     pub kind: u8,
@@ -43,11 +56,4 @@ pub struct Head {
     pub next: u8,
     pub top: u8,
     pub deep: u8,
-}
-
-// What a token comes to: what is read by then, and the number that it is refused with, 0 where it is not.
-#[derive(Clone, Copy)]
-pub struct Took {
-    pub head: Head,
-    pub refusal: u32,
 }

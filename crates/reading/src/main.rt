@@ -4,7 +4,7 @@
 //     refused 12 at 40
 #![tactic(auto)]
 
-use judging::Reply;
+use judging::TextRefusal;
 use std::io::{Read, Result};
 
 // The parts that are read at the most: one byte more than a text may have is refused.
@@ -24,13 +24,11 @@ fn read_text(
     opens: &mut [u32],
     blocks: &mut [u8],
 ) -> Result<()> {
-    let mut k: usize = 0;
-    while k < PARTS {
-        k += 1;
+    for _ in 0..PARTS {
         let mut read = [0u8; PART_BYTES];
         let n = text::read_full(input, &mut read)?;
         let room = designer::BLOCK_BYTES;
-        designer::part(
+        let _ = designer::part(
             &read[..n],
             room,
             words,
@@ -42,7 +40,7 @@ fn read_text(
             blocks,
         );
         if n < PART_BYTES {
-            return Ok(());
+            break;
         }
     }
     Ok(())
@@ -55,11 +53,10 @@ fn write_refusal(err: &impl Print, number: u32, at: u32) -> Result<()> {
 }
 
 fn write_page(rt: &impl Print, room: &[u8], blocks: u32) -> Result<()> {
-    let n = 512 * (blocks as usize);
-    if n <= room.len() {
-        return rt.write_all(&room[..n]);
+    match room.get(..512 * blocks as usize) {
+        Some(page) => rt.write_all(page),
+        None => Ok(()),
     }
-    Ok(())
 }
 
 fn main(rt: HostRuntime) -> Result<()> {
@@ -71,7 +68,7 @@ fn main(rt: HostRuntime) -> Result<()> {
     let mut opens = [0u32; designer::BLOCKS];
     let mut blocks = [0u8; designer::BLOCK_BYTES];
     let mut room = [0u8; designer::BLOCK_BYTES];
-    designer::begin(
+    let _ = designer::begin(
         &mut words,
         &mut values,
         &word,
@@ -101,7 +98,7 @@ fn main(rt: HostRuntime) -> Result<()> {
         &mut blocks,
     );
     match r {
-        Reply::Page(n) => write_page(&rt, &room, n),
-        Reply::Refused(number, at) => write_refusal(&rt.stderr(), number, at),
+        Ok(n) => write_page(&rt, &room, n),
+        Err(TextRefusal { number, at }) => write_refusal(&rt.stderr(), number, at),
     }
 }

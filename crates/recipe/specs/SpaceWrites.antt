@@ -1,19 +1,19 @@
 -- What writing a recipe replies, and what it leaves in the words lent (FORMAT.md, Operations).
-use Rattle.std.specs.Prelude.{ℕ, cond, List, ◌++◌, ℤ, eqb, leb, length, drop}
+use Rattle.std.specs.Prelude.{ℕ, cond, List, ◌++◌, ℤ, eqb, leb, length, drop, Result, Ok, Err}
+use Rattle.fixed.specs.Refusals.{number_of}
+use Rattle.fixed.specs.declared.refusals.Refused.{Refused}
 use Rattle.space.specs.Spaces.{Space, count_of}
 use Rattle.parts.specs.Recipes.{recipe_of}
-use Rattle.recipe.specs.declared.Written.{Written}
-use Rattle.recipe.specs.declared.Written.TheVariants.{Words, Refused}
 
 -- a reply: the recipe's count of words, or a refusal with its number and block
 pub data Reply : Type 0 where
   wrote : ℕ → Reply
   refusal : ℕ → ℕ → Reply
 
--- what each case of the enum `Written` says
-abbrev pub meaning : Written → Reply
-meaning (Words n) = wrote n
-meaning (Refused number block) = refusal number block
+-- what a `Result` says
+abbrev pub meaning : Result ℕ Refused → Reply
+meaning (Ok n) = wrote n
+meaning (Err e) = refusal (number_of e.refusal) e.block
 
 -- 8 where there is no space, then 10 where the words lent are fewer than the recipe's, then its count
 unfoldable pub replied : Space → List ℤ → Reply

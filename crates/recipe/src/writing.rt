@@ -6,8 +6,8 @@ ghost use Rattle.space.specs.Levels.{space_in};
 ghost use Rattle.parts.specs.Recipes.{steps_of};
 ghost use Rattle.recipe.specs.SpaceWrites.{meaning, replied, words_after};
 
-use crate::Written;
 use cie::Closing;
+use fixed::{Refusal, Refused};
 use parts::{put_closing, put_ends, put_program, put_row, put_tint, word_of};
 use space::{Level, count, level_at, plain_at, tinted_at};
 use tables::words_in;
@@ -48,26 +48,20 @@ fn put_steps(page: &[u8], l: Level, words: &mut [i32], at: usize)
 
 // Writes the recipe of the space at a number of a page: 8 where there is no space, then 10 where the words lent are too few. Words past the recipe
 // stay as they were, and on a refusal all do.
-pub fn write_space(page: &[u8], n: u32, words: &mut [i32]) -> Written
+pub fn write_space(page: &[u8], n: u32, words: &mut [i32]) -> Result<u32, Refused>
     ensures result_value { meaning result ≡ replied (space_at page.now n) words.old }
     ensures words_after { words.new ≡ words_after (space_at page.now n) words.old }
 {
     let l = level_at(page, n);
     let m = count(l);
     if m == 0 {
-        return Written::Refused {
-            number: 8,
-            block: 0,
-        };
+        return Err(Refusal::NoSuchSpace.of_block(0));
     }
     let size = words_in(page, l);
-    if words.len() < (size as usize) {
-        return Written::Refused {
-            number: 10,
-            block: 0,
-        };
+    if words.len() < size as usize {
+        return Err(Refusal::Room.of_block(0));
     }
     words[0] = word_of(m);
     put_steps(page, l, words, 1);
-    Written::Words(size)
+    Ok(size)
 }

@@ -2,6 +2,5 @@
 pub mod Compared
 pub mod Runs
 pub mod Fours
-pub mod InRanges
 pub mod Shapes
 pub mod Same

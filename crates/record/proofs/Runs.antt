@@ -1,33 +1,37 @@
--- A run of bytes, copied into a room of zeros.
+-- A run of bytes in a room of zeros.
 use mathlib.Core.Path.{◌≡◌, sym, ap, ◌∙◌}
-use mathlib.Core.List.{List, ◌++◌}
-use Prim.Native.Nat.{ℕ, zero, suc, ◌+◌, ◌-◌, ◌≤◌}
+use mathlib.Core.List.{List, ◌++◌, append_assoc, append-nil}
+use Prim.Native.Nat.{ℕ, ◌+◌, ◌-◌, ◌≤◌, ◌<◌, min}
 use native.Mathlib.Omega.{arith}
-use lib.ListN.{length, get_or, set, drop, replicate, length-replicate}
-use lib.Seq.{sets, get_or-drop}
-use Rattle.fixed.proofs.Stores.{sets-front}
+use native.Mathlib.Decide.{dec_lt}
+use lib.ListN.{length, get_or, take, drop, replicate, replicate-append-replicate, drop_of_length-le, length-drop}
+use lib.Seq.{take_all}
+use Rattle.std.proofs.lemmas.List.{take_min, drop-replicate}
 use Rattle.layout.specs.Field.{padded}
-use Rattle.layout.proofs.Held.{length-padded}
-use Rattle.layout.proofs.Puts.{copied}
-use Rattle.record.specs.Reading.{run_at}
+use Rattle.layout.proofs.Held.{get_d-padded}
+use Rattle.layout.proofs.Puts.{padded-cut}
+use Rattle.record.specs.Reading.{SameBytes}
 
-pub drop-zeros : (n m : ℕ) → drop n (replicate {A = ℕ} m 0) ≡ replicate (m - n) 0
-drop-zeros zero m = let e : m - 0 ≡ m = omega arith in rw e
-drop-zeros (suc n) zero = let e : 0 - suc n ≡ 0 = omega arith in rw e
-drop-zeros (suc n) (suc m) = let e : suc m - suc n ≡ m - n = omega arith in rw e (drop-zeros n m)
+-- past the end there is nothing, wherever one looks
+there : (p : List ℕ) (from start : ℕ) → start ≡ min from (length p) → drop start p ≡ drop from p
+there p from start e = by (dec_lt from (length p))
+  where
+    by : Dec (from < length p) → drop start p ≡ drop from p
+    by (yes m) = let q : start ≡ from = omega arith in ap (λ (k : ℕ). drop k p) q
+    by (no m) = drop_of_length-le p (omega arith) ∙ sym (drop_of_length-le p (omega arith))
 
--- one byte more
-pub run-turn : (b : List ℕ) (at i x : ℕ) {a : List ℕ} → a ≡ sets (replicate 504 0) 0 (padded i (drop at b)) → x ≡ get_or b (at + i) 0
-    → set a i x ≡ sets (replicate 504 0) 0 (padded (i + 1) (drop at b))
-run-turn b at i x {a} e h =
-    let z : 0 + i ≡ i = omega arith in
-    (λ j. set a (sym z j) ((h ∙ sym (get_or-drop at b i 0)) j)) ∙ copied (replicate 504 0) 0 (drop at b) i e
+-- what a list has of its bytes from a place on, copied over the front of zeros, is a run and the other zeros
+pub room-cut : (p : List ℕ) (from start count size n : ℕ) (d : List ℕ) → d ≡ take (length p - start) (drop start p) → start ≡ min from (length p) → size ≡ min count (length d) → count ≤ n
+    → take size d ++ drop size (replicate n 0) ≡ padded count (drop from p) ++ replicate (n - count) 0
+room-cut p from start count size n d g e f h =
+    let rest : length (drop start p) ≤ length p - start = simp length-drop (omega arith) in
+    let same : d ≡ drop from p = g ∙ take_all (length p - start) (drop start p) rest ∙ there p from start e in
+    let front : take size d ≡ take count d = ap (λ (k : ℕ). take k d) f ∙ take_min count d in
+    let more : n - size ≡ (count - length d) + (n - count) = omega arith in
+    let zeros : drop size (replicate {A = ℕ} n 0) ≡ replicate (count - length d) 0 ++ replicate (n - count) 0 = drop-replicate {X = ℕ} size n 0 ∙ ap (λ (k : ℕ). replicate {A = ℕ} k 0) more ∙ sym (replicate-append-replicate (count - length d) (n - count) 0) in
+    let run : padded count (drop from p) ≡ take count d ++ replicate (count - length d) 0 = ap (padded count) (sym same) ∙ padded-cut count d in
+    rw (front, zeros, run) (sym (append_assoc (take count d) (replicate (count - length d) 0) (replicate (n - count) 0)))
 
--- and all of them
-pub run_end : (b : List ℕ) (at n : ℕ) {a : List ℕ} → n ≤ 504 → a ≡ sets (replicate 504 0) 0 (padded n (drop at b)) → a ≡ run_at b at n
-run_end b at n h e =
-    let l : length (padded n (drop at b)) ≡ n = length-padded n (drop at b) in
-    let o : length (padded n (drop at b)) ≤ length (replicate {A = ℕ} 504 0) = omega (arith, length-replicate {A = ℕ} 504 0) in
-    e ∙ sets-front (padded n (drop at b)) (replicate 504 0) o
-    ∙ ap (λ (j : ℕ). padded n (drop at b) ++ drop j (replicate {A = ℕ} 504 0)) l
-    ∙ ap (λ (t : List ℕ). padded n (drop at b) ++ t) (drop-zeros n 504)
+-- the 512 bytes of a block, whether it has them or not
+pub block-same : (b : List ℕ) → SameBytes (padded 512 b ++ replicate (512 - 512) 0) b
+block-same b k h = ap (λ (l : List ℕ). get_or l k 0) (append-nil (padded 512 b)) ∙ get_d-padded 512 b k h

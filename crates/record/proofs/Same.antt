@@ -4,9 +4,8 @@ use mathlib.Core.Bool.{true, ◌&&◌, cond}
 use mathlib.Core.List.{List, ◌∷◌, ◌++◌}
 use Prim.Native.Nat.{ℕ, zero, suc, ◌+◌, ◌-◌, ◌*◌, ◌≤◌, ◌<◌}
 use native.Mathlib.Omega.{arith}
-use native.Mathlib.Decide.{dec_lt}
-use lib.ListN.{length, get_or, set, drop, replicate}
-use lib.Seq.{get_or-set_same, get_or-set_other, get_or-drop}
+use lib.ListN.{get_or, drop, replicate}
+use lib.Seq.{get_or-drop}
 use lib.Dec.{eqb, leb}
 use Rattle.fixed.specs.Bytes.{byte_at, two_at, number_at}
 use Rattle.fixed.specs.Loops.{zero_between}
@@ -19,14 +18,6 @@ use Rattle.record.specs.Rules.{well_laid, name_shown, well_formed}
 use Rattle.record.specs.declared.types.Body.{Body}
 use Rattle.record.specs.declared.types.Body.TheVariants.{Free, CalGray, CalRgb, Lab, Indexed, Separation, Palette, Program, DeviceN}
 use Rattle.record.proofs.Shapes.{name-same}
-
--- one byte more of a block that is copied byte by byte
-pub copied : (b d : List ℕ) (i x : ℕ) → length d ≡ 512 → i < 512 → x ≡ byte_at b i → ((j : ℕ) → j < i → byte_at d j ≡ byte_at b j) → (j : ℕ) → j < i + 1 → byte_at (set d i x) j ≡ byte_at b j
-copied b d i x long h e before j l = by (dec_lt j i)
-  where
-    by : Dec (j < i) → byte_at (set d i x) j ≡ byte_at b j
-    by (yes m) = get_or-set_other d i j x 0 (λ q. absurd (omega (arith, q, m))) ∙ before j m
-    by (no m) = let q : j ≡ i = omega arith in rw q (get_or-set_same d i x 0 (rw long h) ∙ e)
 
 -- the first n bytes of two lists that agree on them
 padded-same : (n : ℕ) (s t : List ℕ) → ((i : ℕ) → i < n → get_or s i 0 ≡ get_or t i 0) → padded n s ≡ padded n t

@@ -20,6 +20,10 @@ ranges q fs = num q.amin ∷ num q.amax ∷ num q.bmin ∷ num q.bmax ∷ fs
 abbrev pub four : Four → List Field → List Field
 four q fs = num q.a ∷ num q.b ∷ num q.c ∷ num q.d ∷ fs
 
+-- four numbers as ranges, in their order
+abbrev pub ranges_of : Four → Ranges
+ranges_of q = record { amin = q.a; amax = q.b; bmin = q.c; bmax = q.d }
+
 -- the entries of C0 or C1, in their order
 abbrev pub entries_of : Four → List ℤ
 entries_of q = q.a ∷ q.b ∷ q.c ∷ q.d ∷ []

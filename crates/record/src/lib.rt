@@ -4,6 +4,7 @@
 #![tactic(auto)]
 
 mod fits;
+mod kinds;
 mod names;
 mod read;
 mod types;

@@ -13,7 +13,7 @@ pub const NAME_FROM: u32 = 8;
 pub const NAMES: u32 = 500;
 
 // Three numbers: a point of XYZ, or one for each of three components.
-#[derive(Clone, Copy, Drop)]
+#[derive(Clone, Copy, Debug, PartialEq, Eq)]
 pub struct Triple {
     pub x: i32,
     pub y: i32,
@@ -21,7 +21,7 @@ pub struct Triple {
 }
 
 // The ranges of a* and b*.
-#[derive(Clone, Copy, Drop)]
+#[derive(Clone, Copy, Debug, PartialEq, Eq)]
 pub struct Ranges {
     pub amin: i32,
     pub amax: i32,
@@ -30,7 +30,7 @@ pub struct Ranges {
 }
 
 // A number for each component of an alternate space, of which there are up to four.
-#[derive(Clone, Copy, Drop)]
+#[derive(Clone, Copy, Debug, PartialEq, Eq)]
 pub struct Four {
     pub a: i32,
     pub b: i32,
@@ -38,8 +38,37 @@ pub struct Four {
     pub d: i32,
 }
 
+// The numbers in their order.
+impl From<Four> for [i32; 4] {
+    ghost use Rattle.std.specs.Prelude.{◌≡◌};
+    ghost use Rattle.record.specs.Layout.{entries_of};
+
+    ghost from_gives = { λ q l. l ≡ entries_of q };
+
+    fn from(q: Four) -> [i32; 4] {
+        [q.a, q.b, q.c, q.d]
+    }
+}
+
+// Four numbers as ranges, in their order.
+impl From<Four> for Ranges {
+    ghost use Rattle.std.specs.Prelude.{◌≡◌};
+    ghost use Rattle.record.specs.Layout.{ranges_of};
+
+    ghost from_gives = { λ q r. r ≡ ranges_of q };
+
+    fn from(q: Four) -> Ranges {
+        Ranges {
+            amin: q.a,
+            amax: q.b,
+            bmin: q.c,
+            bmax: q.d,
+        }
+    }
+}
+
 // A CalGray space.
-#[derive(Clone, Copy, Drop)]
+#[derive(Clone, Copy, Debug, PartialEq, Eq)]
 pub struct CalGray {
     pub white: Triple,
     pub black: Triple,
@@ -47,7 +76,7 @@ pub struct CalGray {
 }
 
 // A CalRGB space. Its matrix is a, b and c, the XYZ of each component.
-#[derive(Clone, Copy, Drop)]
+#[derive(Clone, Copy, Debug, PartialEq, Eq)]
 pub struct CalRgb {
     pub white: Triple,
     pub black: Triple,
@@ -58,7 +87,7 @@ pub struct CalRgb {
 }
 
 // A Lab space.
-#[derive(Clone, Copy, Drop)]
+#[derive(Clone, Copy, Debug, PartialEq, Eq)]
 pub struct Lab {
     pub white: Triple,
     pub black: Triple,
@@ -66,7 +95,7 @@ pub struct Lab {
 }
 
 // A Separation space. Its name stands in the first bytes of the record's room, name_len of them.
-#[derive(Clone, Copy, Drop)]
+#[derive(Clone, Copy, Debug, PartialEq, Eq)]
 pub struct Separation {
     pub alternate: u16,
     pub exponent: u8,
@@ -76,7 +105,7 @@ pub struct Separation {
 }
 
 // What a block's kind says it holds.
-#[derive(Clone, Copy, Drop)]
+#[derive(Clone, Copy, Debug, PartialEq, Eq)]
 pub enum Body {
     Free,
     CalGray(CalGray),
@@ -92,7 +121,7 @@ pub enum Body {
 
 // A record: its own number, its body, and room for bytes, with a Separation's name in the first 128 places, a DeviceN's names in the first 500, or a part of a
 // palette or of a program's text in all 504.
-#[derive(Clone, Copy, Drop)]
+#[derive(Clone, Copy, Debug, PartialEq, Eq)]
 pub struct Record {
     pub own: u16,
     pub body: Body,

@@ -13,14 +13,11 @@ fn is_new(s: &[u8], k: u32, q: u32) -> bool
     ensures { result ≡ all_between (λ j. not (same_names s.now (name_place s.now j) q)) 0 k }
 {
     let mut at: u32 = 0;
-    let mut j: u32 = 0;
-    while j < k {
+    for _ in 0..k {
         if is_same_name(s, at, q) {
             return false;
         }
-        let size = byte_at(s, 0, at);
-        at = at + 1 + size;
-        j += 1;
+        at += 1 + byte_at(s, 0, at);
     }
     true
 }
@@ -31,22 +28,19 @@ fn is_fair(s: &[u8], k: u32) -> bool
     ensures { result ≡ (not (name_is s.now (name_place s.now k) the_all) && (name_is s.now (name_place s.now k) the_none || all_between (λ j. not (same_names s.now (name_place s.now j) (name_place s.now k))) 0 k)) }
 {
     let q = name_place(s, k);
-    let every = is_name(s, 0, q, b"All");
-    let none = is_name(s, 0, q, b"None");
-    !every & (none | is_new(s, k, q))
+    !is_name(s, 0, q, b"All") && (is_name(s, 0, q, b"None") || is_new(s, k, q))
 }
 
 // Whether the first n names are in order.
+#[tactic(auto, unfolding(record::specs::Rules::names_lawful))]
 pub fn are_lawful(s: &[u8], n: u32) -> bool
     requires { n ≤ 255 }
     ensures { result ≡ names_lawful s.now n }
 {
-    let mut k: u32 = 0;
-    while k < n {
+    for k in 0..n {
         if !is_fair(s, k) {
             return false;
         }
-        k += 1;
     }
     true
 }

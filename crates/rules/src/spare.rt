@@ -8,6 +8,7 @@ use crate::shape::zero_between;
 use record::{Four, entries_of};
 
 // Whether the part of a palette in block n has nothing after its first `size` bytes.
+#[tactic(auto, unfolding(record::specs::Rules::palette_ends))]
 pub fn palette_ends(page: &[u8], n: u32, size: u32) -> bool
     requires { size ≤ room }
     ensures { result ≡ palette_ends (block_at page.now n) size }
@@ -18,21 +19,19 @@ pub fn palette_ends(page: &[u8], n: u32, size: u32) -> bool
 fn is_zero(v: i32) -> bool
     ensures { result ≡ is_zero v }
 {
-    (0 <= v) & (v <= 0)
+    v == 0
 }
 
 // Whether C0 or C1 has nothing after its first m entries.
+#[tactic(auto, unfolding(record::specs::Rules::entries_end))]
 pub fn entries_end(q: Four, m: u32) -> bool
     ensures { result ≡ entries_end q m }
 {
-    let a = entries_of(q);
-    let mut k = m;
-    while k < 4 {
-        let i = k as usize;
-        if !is_zero(a[i]) {
+    let entries = entries_of(q);
+    for k in m..4 {
+        if !is_zero(entries[k as usize]) {
             return false;
         }
-        k += 1;
     }
     true
 }

@@ -26,7 +26,7 @@ use Rattle.cie.specs.declared.Closing.{Closing}
 use Rattle.cie.specs.declared.Closing.TheVariants.{Gray, Rgb, Cmyk, CalGray, CalRgb, Lab, NoMark, EveryInk}
 use Rattle.steps.specs.Steps.{step_of}
 use Rattle.steps.specs.declared.Step.TheVariants.{Close}
-use Rattle.steps.specs.declared.Read.TheVariants.{At}
+use Rattle.std.specs.Prelude.{Some}
 use Rattle.steps.proofs.Parsed.{one-to, head_size, limit-read, tint-read, program-read, row-read, device-gray-read, device-rgb-read, device-cmyk-read, gray-read, rgb-read, lab-read, no-mark-read, every-ink-read}
 use Rattle.fixed.specs.Sizes.{longest}
 use Rattle.runner.specs.Runs.{ended, runs, ran}
@@ -122,7 +122,7 @@ module _ (m h : ℕ) (t l : List ℤ) (low : 1 ≤ m) (high : m ≤ places) (las
 
 -- ---- a closing step, after which nothing stands
 
-pub close-run : (n c : ℕ) (l : List ℤ) (v : Colour) (k : Closing) → step_of l ≡ At (Close k) (length l)
+pub close-run : (n c : ℕ) (l : List ℤ) (v : Colour) (k : Closing) → step_of l ≡ Some (Close k, length l)
     → runs n c l v ≡ cond (eqb c n) (closed k v) (refusal 9 0)
 unfolding ended
 close-run n c l v k e = begun n c l v e ∙ simp (eq-eqb (length l) (length l) refl)

@@ -1,5 +1,5 @@
 -- FORMAT.md, Recipes: "the input count, steps, one closing step, nothing more". What a list of words replies to components.
-use Rattle.std.specs.Prelude.{ℕ, zero, suc, pred, ◌+◌, cond, List, [], ◌∷◌, ℤ, ltb, eqb, length, drop}
+use Rattle.std.specs.Prelude.{ℕ, zero, suc, pred, ◌+◌, cond, Some, None, List, [], ◌∷◌, ℤ, ltb, eqb, length, drop}
 use Rattle.fixed.specs.Values.{value, small_of, places, fills, started, limit_step, row_step, tint_step}
 use Rattle.fixed.specs.Sizes.{longest}
 use Rattle.fixed.specs.declared.values.Colour.{Colour}
@@ -10,7 +10,6 @@ use Rattle.cie.specs.declared.Closing.{Closing}
 use Rattle.steps.specs.Steps.{step_of}
 use Rattle.steps.specs.declared.Step.{Step}
 use Rattle.steps.specs.declared.Step.TheVariants.{Limit, Row, Tint, Program, Close}
-use Rattle.steps.specs.declared.Read.TheVariants.{At, Nothing}
 
 -- what one step comes to: the reply, or the colour after it
 pub data Turn : Type 0 where
@@ -43,8 +42,8 @@ runs_after n c [] k v = refusal 11 0
 runs_after n c (w ∷ ws) (suc k) v = runs_after n c ws k v
 runs_after n c (w ∷ ws) zero v =
     elim (step_of (w ∷ ws)) [
-      | At s size ↦ elim (turn_of (w ∷ ws) n c v size s) [ done r ↦ r | more u ↦ runs_after n c ws (pred size) u ]
-      | Nothing ↦ refusal 11 0
+      | Some (s, size) ↦ elim (turn_of (w ∷ ws) n c v size s) [ done r ↦ r | more u ↦ runs_after n c ws (pred size) u ]
+      | None ↦ refusal 11 0
     ]
 
 -- the steps that stand in l, from the colour v on

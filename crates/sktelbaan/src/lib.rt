@@ -20,8 +20,7 @@ ghost use Rattle.sktelbaan.specs.Replies.{page_of};
 
 mod texts;
 
-use block::Reply;
-use ink_names::Ink;
+use fixed::Refusal;
 use sktelbaan_runner::halves;
 
 // Validates a page. The reply gives nothing.
@@ -76,10 +75,10 @@ pub extern "C" fn sktelbaan_write_block(
     ensures block_after { block.new ≡ put_block numbers.now bytes.now block.old }
 {
     if block.len() != 512 {
-        return halves(10, 0);
+        return c_layout::done(Err(Refusal::Room));
     }
     if !c_records::is_record_like(numbers) {
-        return halves(3, 0);
+        return c_layout::done(Err(Refusal::Form));
     }
     c_layout::done(block::write(c_records::record_of(numbers, bytes), block))
 }
@@ -95,19 +94,15 @@ pub extern "C" fn sktelbaan_read_block(
     ensures numbers_after { numbers.new ≡ got_numbers block.now numbers.old }
     ensures bytes_after { bytes.new ≡ got_bytes block.now bytes.old }
 {
-    let a = block::read(block);
-    let reply = a.reply;
-    match reply {
-        Reply::Done => {
-            let r = a.found;
-            let y = r.body;
-            let v = c_records::numbers_of(r.own, y);
-            let s = r.bytes;
+    match block::read(block) {
+        Ok(r) => {
+            let v = c_records::numbers_of(r.own, r.body);
+            let room = r.bytes;
             *numbers = v;
-            *bytes = s;
+            *bytes = room;
             halves(0, 0)
         }
-        Reply::Refused(n) => halves(n, 0),
+        Err(refusal) => halves(refusal.number(), 0),
     }
 }
 
@@ -124,19 +119,14 @@ pub extern "C" fn sktelbaan_find_ink(
     ensures value { result ≡ ink_of (found_ink job.now house.now name.now) }
     ensures place_after { place.new ≡ place_of (found_ink job.now house.now name.now) name.now place.old }
 {
-    let t = inks::find(job, house, name);
-    match t {
-        Ink::Found { page, block } => {
-            let from = ink_names::name_start(block) as u32;
+    match inks::find(job, house, name) {
+        Ok(found) => {
+            let from = ink_names::name_start(found.block) as u32;
             let size = name.len() as u32;
             *place = [from, size];
-            halves(0, c_layout::on_page(page, block))
+            halves(0, c_layout::on_page(found.page, found.block))
         }
-        Ink::Refused {
-            number,
-            page,
-            block,
-        } => halves(number, c_layout::on_page(page, block)),
+        Err(error) => c_layout::no_ink(error),
     }
 }
 
@@ -154,10 +144,7 @@ pub extern "C" fn sktelbaan_begin_text(
     ensures value { result ≡ in_halves (lent_fault (memory words.old values.old word.now marks.now names.now opens.now blocks.now)) 0 }
     ensures blocks_after { view_of (memory words.new values.new word.now marks.now names.now opens.now blocks.now) ≡ begun_view (view_of (memory words.old values.old word.now marks.now names.now opens.now blocks.now)) }
 {
-    halves(
-        designer::begin(words, values, word, marks, names, opens, blocks),
-        0,
-    )
+    c_layout::done(designer::begin(words, values, word, marks, names, opens, blocks))
 }
 
 // Reads a part of a designer's text; `room` is the length of the room that its end will be lent. The reply gives nothing.
@@ -176,8 +163,7 @@ pub extern "C" fn sktelbaan_read_text(
     ensures value { result ≡ in_halves (lent_fault (memory words.old values.old word.old marks.old names.old opens.old blocks.old)) 0 }
     ensures blocks_after { view_of (memory words.new values.new word.new marks.new names.new opens.new blocks.new) ≡ part_view room (view_of (memory words.old values.old word.old marks.old names.old opens.old blocks.old)) text.now }
 {
-    let n = designer::part(text, room, words, values, word, marks, names, opens, blocks);
-    halves(n, 0)
+    c_layout::done(designer::part(text, room, words, values, word, marks, names, opens, blocks))
 }
 
 // Ends a designer's text. The reply gives how many blocks were written to the room; on a refusal its byte in place of a block, and the room stays as it was.

@@ -21,15 +21,6 @@ fn put_three(floats: &mut [f64; 4], a: f64, b: f64, c: f64)
     floats[2] = c;
 }
 
-fn put_four(floats: &mut [f64; 4], a: f64, b: f64, c: f64, d: f64)
-    ensures { floats.new ≡ sets floats.old 0 (a ∷ b ∷ c ∷ d ∷ []) }
-{
-    floats[0] = a;
-    floats[1] = b;
-    floats[2] = c;
-    floats[3] = d;
-}
-
 // The code of what an answer is in, with the top bit beside it.
 fn coded(code: u32, moved: bool) -> u64
     requires { code ≤ 6 }
@@ -41,7 +32,7 @@ fn coded(code: u32, moved: bool) -> u64
     halves(0, code)
 }
 
-// Puts an answer's floats, and gives the reply.
+// Puts an answer's floats, and gives the reply; of a refusal its number and block, and no float is put.
 fn put_said(a: Answer, moved: bool, floats: &mut [f64; 4]) -> u64
     ensures value { result ≡ reply_of (said a moved) }
     ensures floats_after { floats.new ≡ floats_of (said a moved) floats.old }
@@ -56,7 +47,7 @@ fn put_said(a: Answer, moved: bool, floats: &mut [f64; 4]) -> u64
             coded(2, moved)
         }
         Answer::Cmyk(c, m, y, k) => {
-            put_four(floats, c, m, y, k);
+            *floats = [c, m, y, k];
             coded(3, moved)
         }
         Answer::Xyz(p) => {
@@ -68,7 +59,7 @@ fn put_said(a: Answer, moved: bool, floats: &mut [f64; 4]) -> u64
             floats[0] = t;
             coded(6, moved)
         }
-        Answer::Refused { number, block } => halves(number, block),
+        Answer::Refused(e) => halves(e.refusal.number(), e.block),
     }
 }
 
@@ -77,7 +68,5 @@ pub fn put_answer(r: Answered, floats: &mut [f64; 4]) -> u64
     ensures value { result ≡ reply_of (meaning r) }
     ensures floats_after { floats.new ≡ floats_of (meaning r) floats.old }
 {
-    let moved = r.moved;
-    let a = r.answer;
-    put_said(a, moved, floats)
+    put_said(r.answer, r.moved, floats)
 }

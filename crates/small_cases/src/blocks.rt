@@ -1,5 +1,7 @@
 // Cases of one block by itself: read, and written.
-use block::{Reply, read, write};
+ghost use Rattle.std.specs.Prelude.{◌≤◌};
+
+use block::{read, write};
 use octets::of_signed;
 use record::{Body, CalGray, CalRgb, Four, Lab, Ranges, Record, Separation, Triple};
 use std::io::Result;
@@ -19,46 +21,34 @@ fn say_four(rt: &impl Print, q: Four) -> Result<()> {
 }
 
 fn say_unsigned(rt: &impl Print, n: u32) -> Result<()> {
-    say(rt, b" ")?;
-    say_size(rt, n)
+    print!(rt; " {n}")
 }
 
 fn say_gray(rt: &impl Print, g: CalGray) -> Result<()> {
-    let white = g.white;
-    let black = g.black;
     say(rt, b" 1")?;
-    say_triple(rt, white)?;
-    say_triple(rt, black)?;
+    say_triple(rt, g.white)?;
+    say_triple(rt, g.black)?;
     say_next(rt, g.gamma)
 }
 
 fn say_rgb(rt: &impl Print, g: CalRgb) -> Result<()> {
-    let white = g.white;
-    let black = g.black;
-    let gammas = g.gammas;
-    let a = g.a;
-    let b = g.b;
-    let c = g.c;
     say(rt, b" 2")?;
-    say_triple(rt, white)?;
-    say_triple(rt, black)?;
-    say_triple(rt, gammas)?;
-    say_triple(rt, a)?;
-    say_triple(rt, b)?;
-    say_triple(rt, c)
+    say_triple(rt, g.white)?;
+    say_triple(rt, g.black)?;
+    say_triple(rt, g.gammas)?;
+    say_triple(rt, g.a)?;
+    say_triple(rt, g.b)?;
+    say_triple(rt, g.c)
 }
 
 fn say_lab(rt: &impl Print, g: Lab) -> Result<()> {
-    let white = g.white;
-    let black = g.black;
-    let range = g.range;
     say(rt, b" 3")?;
-    say_triple(rt, white)?;
-    say_triple(rt, black)?;
-    say_next(rt, range.amin)?;
-    say_next(rt, range.amax)?;
-    say_next(rt, range.bmin)?;
-    say_next(rt, range.bmax)
+    say_triple(rt, g.white)?;
+    say_triple(rt, g.black)?;
+    say_next(rt, g.range.amin)?;
+    say_next(rt, g.range.amax)?;
+    say_next(rt, g.range.bmin)?;
+    say_next(rt, g.range.bmax)
 }
 
 // The first n of the bytes.
@@ -70,14 +60,12 @@ fn say_first(rt: &impl Print, bytes: &[u8], n: usize) -> Result<()> {
 }
 
 fn say_separation(rt: &impl Print, p: Separation, bytes: &[u8]) -> Result<()> {
-    let c0 = p.c0;
-    let c1 = p.c1;
     say(rt, b" 5")?;
     say_unsigned(rt, p.alternate as u32)?;
     say_unsigned(rt, p.exponent as u32)?;
     say_unsigned(rt, p.name_len as u32)?;
-    say_four(rt, c0)?;
-    say_four(rt, c1)?;
+    say_four(rt, p.c0)?;
+    say_four(rt, p.c1)?;
     say(rt, b" x")?;
     say_first(rt, bytes, 128)
 }
@@ -116,20 +104,12 @@ fn say_body(rt: &impl Print, y: Body, bytes: &[u8]) -> Result<()> {
 
 // Reads a block.
 fn read_case(rt: &impl Print, b: &[u8]) -> Result<()> {
-    let a = read(b);
-    let reply = a.reply;
-    match reply {
-        Reply::Done => {
-            let r = a.found;
-            let y = r.body;
-            let bytes = r.bytes;
+    match read(b) {
+        Ok(r) => {
             say_size(rt, r.own as u32)?;
-            say_body(rt, y, &bytes)
+            say_body(rt, r.body, &r.bytes)
         }
-        Reply::Refused(n) => {
-            say(rt, b"refused ")?;
-            say_size(rt, n)
-        }
+        Err(refusal) => print!(rt; "{refusal}"),
     }
 }
 
@@ -141,105 +121,73 @@ fn small(v: i32) -> u8 {
     (of_signed(v) % 256) as u8
 }
 
-fn white_of(v: [i32; 24]) -> Triple {
+// The three numbers from `at` on.
+fn triple_at(v: &[i32; 24], at: usize) -> Triple
+    requires { at ≤ 21 }
+{
     Triple {
-        x: v[3],
-        y: v[4],
-        z: v[5],
+        x: v[at],
+        y: v[at + 1],
+        z: v[at + 2],
     }
 }
 
-fn black_of(v: [i32; 24]) -> Triple {
-    Triple {
-        x: v[6],
-        y: v[7],
-        z: v[8],
+// The four numbers from `at` on.
+fn four_at(v: &[i32; 24], at: usize) -> Four
+    requires { at ≤ 20 }
+{
+    Four {
+        a: v[at],
+        b: v[at + 1],
+        c: v[at + 2],
+        d: v[at + 3],
     }
 }
 
-fn gray_of(v: [i32; 24]) -> Body {
-    let white = white_of(v);
-    let black = black_of(v);
+fn gray_of(v: &[i32; 24]) -> Body {
     Body::CalGray(CalGray {
-        white,
-        black,
+        white: triple_at(v, 3),
+        black: triple_at(v, 6),
         gamma: v[9],
     })
 }
 
-fn rgb_of(v: [i32; 24]) -> Body {
-    let white = white_of(v);
-    let black = black_of(v);
-    let gammas = Triple {
-        x: v[9],
-        y: v[10],
-        z: v[11],
-    };
-    let a = Triple {
-        x: v[12],
-        y: v[13],
-        z: v[14],
-    };
-    let b = Triple {
-        x: v[15],
-        y: v[16],
-        z: v[17],
-    };
-    let c = Triple {
-        x: v[18],
-        y: v[19],
-        z: v[20],
-    };
+fn rgb_of(v: &[i32; 24]) -> Body {
     Body::CalRgb(CalRgb {
-        white,
-        black,
-        gammas,
-        a,
-        b,
-        c,
+        white: triple_at(v, 3),
+        black: triple_at(v, 6),
+        gammas: triple_at(v, 9),
+        a: triple_at(v, 12),
+        b: triple_at(v, 15),
+        c: triple_at(v, 18),
     })
 }
 
-fn lab_of(v: [i32; 24]) -> Body {
-    let white = white_of(v);
-    let black = black_of(v);
-    let range = Ranges {
-        amin: v[9],
-        amax: v[10],
-        bmin: v[11],
-        bmax: v[12],
-    };
+fn lab_of(v: &[i32; 24]) -> Body {
     Body::Lab(Lab {
-        white,
-        black,
-        range,
+        white: triple_at(v, 3),
+        black: triple_at(v, 6),
+        range: Ranges {
+            amin: v[9],
+            amax: v[10],
+            bmin: v[11],
+            bmax: v[12],
+        },
     })
 }
 
-fn separation_of(v: [i32; 24]) -> Body {
-    let c0 = Four {
-        a: v[6],
-        b: v[7],
-        c: v[8],
-        d: v[9],
-    };
-    let c1 = Four {
-        a: v[10],
-        b: v[11],
-        c: v[12],
-        d: v[13],
-    };
+fn separation_of(v: &[i32; 24]) -> Body {
     Body::Separation(Separation {
         alternate: short(v[3]),
         exponent: small(v[4]),
         name_len: small(v[5]),
-        c0,
-        c1,
+        c0: four_at(v, 6),
+        c1: four_at(v, 10),
     })
 }
 
 // The body of kind v[2] whose numbers stand from v[3] on, in the order of the layout.
-fn body_of(v: [i32; 24]) -> Body {
+fn body_of(v: &[i32; 24]) -> Body {
     match of_signed(v[2]) {
         1 => gray_of(v),
         2 => rgb_of(v),
@@ -259,52 +207,35 @@ fn body_of(v: [i32; 24]) -> Body {
     }
 }
 
-fn byte_or_zero(s: &[u8], i: usize) -> u8 {
-    if i < s.len() { s[i] } else { 0 }
-}
-
+// The bytes at the start of a room of a record's, the others 0.
 fn room_of(s: &[u8]) -> [u8; 504] {
     let mut bytes = [0u8; 504];
-    let mut i: usize = 0;
-    while i < 504 {
-        let x = byte_or_zero(s, i);
-        bytes[i] = x;
-        i += 1;
+    for (byte, x) in bytes.iter_mut().zip(s) {
+        *byte = *x;
     }
     bytes
 }
 
 // Whether each byte is AA.
 pub fn is_kept(s: &[u8]) -> bool {
-    let mut i: usize = 0;
-    while i < s.len() {
-        if s[i] != 0xaa {
-            return false;
-        }
-        i += 1;
-    }
-    true
+    s.iter().all(|x| *x == 0xaa)
 }
 
 // Writes a record into bytes that hold AA.
 fn write_case(rt: &impl Print, v: [i32; 24], s: &[u8]) -> Result<()> {
-    let body = body_of(v);
-    let bytes = room_of(s);
     let r = Record {
         own: short(v[1]),
-        body,
-        bytes,
+        body: body_of(&v),
+        bytes: room_of(s),
     };
     let mut out = [0xaau8; 512];
-    let reply = write(r, &mut out);
-    match reply {
-        Reply::Done => {
+    match write(r, &mut out) {
+        Ok(()) => {
             say(rt, b"x")?;
             say_dotted(rt, &out)
         }
-        Reply::Refused(n) => {
-            say(rt, b"refused ")?;
-            say_size(rt, n)?;
+        Err(refusal) => {
+            print!(rt; "{refusal}")?;
             if is_kept(&out) {
                 say(rt, b" kept")?;
             }
@@ -314,6 +245,7 @@ fn write_case(rt: &impl Print, v: [i32; 24], s: &[u8]) -> Result<()> {
 }
 
 // Operations 20 and 21: reading a block, writing a record.
+// Kept: an operation is a number in the text of a case, as in `page_case` of `cases`.
 pub fn block_case(rt: &impl Print, op: u32, v: [i32; 24], bytes: &[u8]) -> Result<()> {
     match op {
         20 => read_case(rt, bytes),

@@ -38,6 +38,7 @@ fn bytes_case(rt: &impl Print, v: i32) -> Result<()> {
 }
 
 // Operations 1 to 9: limit, index, palette value, tint power, tint value, float; a number of two bytes, of four, and the bytes of a number.
+// Kept: an operation is a number in the text of a case, as in `page_case` of `cases`.
 pub fn number_case(rt: &impl Print, op: u32, v: [i32; 24], bytes: &[u8]) -> Result<()> {
     match op {
         1 => say_number(rt, limit(v[1], v[2], v[3])),

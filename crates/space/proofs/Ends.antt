@@ -14,7 +14,9 @@ use Rattle.record.specs.declared.types.Ranges.{Ranges}
 use Rattle.space.specs.Spaces.{Space, count_of, limit_count, low_of, high_of, words_of}
 use Rattle.space.specs.Numbers.{palette_byte}
 use Rattle.space.specs.Pages.{entry_of}
-use Rattle.space.specs.Levels.{plain_in, no_ranges, is_lab, Ends, Ranged}
+use Rattle.space.specs.Levels.{plain_in, space_in, no_ranges, is_lab, Ends, Ranged}
+use Rattle.space.specs.declared.nesting.Level.{Level}
+use Rattle.space.specs.declared.nesting.Level.TheVariants.{Plain, Blank, Separation, Program, Indexed}
 
 never : {A : Type 0} → false ≡ true → A
 never e = absurd (true≢false (sym e))
@@ -58,6 +60,15 @@ module _ (q : Ranges) where
   unit_ends (Lab k) e = never (sym e)
   unit_ends NoMark e = (refl, refl)
   unit_ends EveryInk e = (refl, refl)
+
+-- what is no plain space has components of 0 to 1
+pub other_ends : (page : List ℕ) (l : Level) → ((c : Closing) (q : Ranges) → l ≡ Plain c q → ⊥) → Ends (space_in page l) (replicate places (pos 0)) (replicate places (pos 1000000))
+unfolding space_in listed
+other_ends page (Plain c q) h = absurd (h c q refl)
+other_ends page (Blank i) h = record { low = refl; high = refl }
+other_ends page (Separation p) h = record { low = refl; high = refl }
+other_ends page (Program n alternate i) h = record { low = refl; high = refl }
+other_ends page (Indexed n base hival) h = record { low = refl; high = refl }
 
 -- each end is that of its component
 module _ {s : Space} {lo hi : List ℤ} (r : Ends s lo hi) (k : ℕ) (l : k < places) where

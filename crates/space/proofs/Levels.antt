@@ -9,6 +9,7 @@ use lib.Dec.{eqb, ltb}
 use Rattle.fixed.specs.Values.{widest}
 use Rattle.fixed.specs.Bytes.{blocks, gray_code, rgb_code, cmyk_code, block_at}
 use Rattle.fixed.proofs.Decide.{cond_ind}
+use Rattle.cie.specs.declared.Closing.{Closing}
 use Rattle.cie.specs.declared.Closing.TheVariants.{Nothing, Gray, Rgb, Cmyk, EveryInk}
 use Rattle.record.specs.Reading.{body_at, names_at, the_none, the_all, ink_is, all_none}
 use Rattle.record.specs.declared.types.Ranges.{Ranges}
@@ -41,6 +42,21 @@ plain (Blank i) = nothing
 plain (Separation p) = nothing
 plain (Program n alternate i) = nothing
 plain (Indexed n base hival) = nothing
+
+-- what is no Indexed is tinted, and what is no plain space is not plain
+pub tinted_other : (l : Level) → ((n base hival : ℕ) → l ≡ Indexed n base hival → ⊥) → l ≡ tinted l
+tinted_other (Plain c q) h = refl
+tinted_other (Blank i) h = refl
+tinted_other (Separation p) h = refl
+tinted_other (Program n alternate i) h = refl
+tinted_other (Indexed n base hival) h = absurd (h n base hival refl)
+
+pub plain_other : (l : Level) → ((c : Closing) (q : Ranges) → l ≡ Plain c q → ⊥) → nothing ≡ plain l
+plain_other (Plain c q) h = absurd (h c q refl)
+plain_other (Blank i) h = refl
+plain_other (Separation p) h = refl
+plain_other (Program n alternate i) h = refl
+plain_other (Indexed n base hival) h = refl
 
 pub rank_most : (l : Level) → rank_in l ≤ 2
 rank_most (Plain c q) = omega arith

@@ -9,6 +9,4 @@ mod ranges;
 
 pub use nesting::{Level, level_at, plain_at, tinted_at};
 pub use numbers::kind;
-pub use ranges::{
-    components, count, highs, limit_count, lows, plain_count, plain_highs, plain_lows,
-};
+pub use ranges::{Bounds, bounds_of, components, count, limit_count, plain_bounds, plain_count};

@@ -37,10 +37,9 @@ pub enum Level {
 fn gray_numbers(g: CalGray) -> GrayClosing
     ensures { result ≡ gray_numbers g }
 {
-    let white = g.white;
     GrayClosing {
-        xw: white.x,
-        zw: white.z,
+        xw: g.white.x,
+        zw: g.white.z,
         gamma: g.gamma,
     }
 }
@@ -49,33 +48,28 @@ fn gray_numbers(g: CalGray) -> GrayClosing
 fn rgb_numbers(g: CalRgb) -> RgbClosing
     ensures { result ≡ rgb_numbers g }
 {
-    let gammas = g.gammas;
-    let a = g.a;
-    let b = g.b;
-    let c = g.c;
     RgbClosing {
-        ga: gammas.x,
-        gb: gammas.y,
-        gc: gammas.z,
-        xa: a.x,
-        ya: a.y,
-        za: a.z,
-        xb: b.x,
-        yb: b.y,
-        zb: b.z,
-        xc: c.x,
-        yc: c.y,
-        zc: c.z,
+        ga: g.gammas.x,
+        gb: g.gammas.y,
+        gc: g.gammas.z,
+        xa: g.a.x,
+        ya: g.a.y,
+        za: g.a.z,
+        xb: g.b.x,
+        yb: g.b.y,
+        zb: g.b.z,
+        xc: g.c.x,
+        yc: g.c.y,
+        zc: g.c.z,
     }
 }
 
 fn lab_numbers(g: Lab) -> LabClosing
     ensures { result ≡ lab_numbers g }
 {
-    let white = g.white;
     LabClosing {
-        xw: white.x,
-        zw: white.z,
+        xw: g.white.x,
+        zw: g.white.z,
     }
 }
 
@@ -99,11 +93,11 @@ fn nothing() -> Level
 fn lab_level(g: Lab) -> Level
     ensures { result ≡ Level.Plain (Closing.Lab (lab_numbers g)) g.range }
 {
-    let range = g.range;
-    Level::Plain(Closing::Lab(lab_numbers(g)), range)
+    Level::Plain(Closing::Lab(lab_numbers(g)), g.range)
 }
 
 // The level of the Separation p of block n: its name is looked at here, and nowhere else.
+#[tactic(auto, unfolding(crate::specs::Levels::ink_level))]
 fn ink_level(page: &[u8], n: u16, p: Separation) -> Level
     ensures { result ≡ ink_level page.now n p }
 {
@@ -124,6 +118,7 @@ fn ink_level(page: &[u8], n: u16, p: Separation) -> Level
 }
 
 // The level of the DeviceN of block n: its names are looked at here.
+#[tactic(auto, unfolding(crate::specs::Levels::device_n_level))]
 fn device_n_level(page: &[u8], n: u16, alternate: u16, count: u8) -> Level
     ensures { result ≡ device_n_level page.now n alternate count }
 {
@@ -139,11 +134,12 @@ fn device_n_level(page: &[u8], n: u16, alternate: u16, count: u8) -> Level
 }
 
 // The level of block n, whose body is given.
+#[tactic(auto, unfolding(crate::specs::Levels::level_of))]
 fn level_of(page: &[u8], n: u16, y: Body) -> Level
     ensures { result ≡ level_of page.now n y }
 {
     match y {
-        Body::Free => nothing(),
+        Body::Free | Body::Palette | Body::Program => nothing(),
         Body::CalGray(g) => Level::Plain(Closing::CalGray(gray_numbers(g)), no_ranges()),
         Body::CalRgb(g) => Level::Plain(Closing::CalRgb(rgb_numbers(g)), no_ranges()),
         Body::Lab(g) => lab_level(g),
@@ -153,13 +149,12 @@ fn level_of(page: &[u8], n: u16, y: Body) -> Level
             hival,
         },
         Body::Separation(p) => ink_level(page, n, p),
-        Body::Palette => nothing(),
-        Body::Program => nothing(),
         Body::DeviceN { alternate, count } => device_n_level(page, n, alternate, count),
     }
 }
 
 // The closing step of a device space, by its code.
+#[tactic(auto, unfolding(crate::specs::Levels::device_closing))]
 fn device_closing(n: u32) -> Closing
     ensures { result ≡ device_closing n }
 {
@@ -172,6 +167,7 @@ fn device_closing(n: u32) -> Closing
 }
 
 // The level at a number: a block's number, or a device code.
+#[tactic(auto, unfolding(crate::specs::Levels::level_at))]
 pub fn level_at(page: &[u8], n: u32) -> Level
     ensures { result ≡ level_at page.now n }
 {
@@ -185,17 +181,7 @@ pub fn level_at(page: &[u8], n: u32) -> Level
 fn is_named(c: Closing) -> bool
     ensures { result ≡ is_named c }
 {
-    match c {
-        Closing::Nothing => false,
-        Closing::Gray => false,
-        Closing::Rgb => false,
-        Closing::Cmyk => false,
-        Closing::CalGray(_) => false,
-        Closing::CalRgb(_) => false,
-        Closing::Lab(_) => false,
-        Closing::NoMark => true,
-        Closing::EveryInk => true,
-    }
+    matches!(c, Closing::NoMark | Closing::EveryInk)
 }
 
 // The level that an Indexed refers to: a Separation, or plain.
@@ -205,19 +191,8 @@ pub fn tinted_at(page: &[u8], n: u16) -> Level
 {
     let l = level_at(page, n as u32);
     match l {
-        Level::Plain(_, _) => l,
-        Level::Blank(_) => l,
-        Level::Separation(_) => l,
-        Level::Program {
-            block: _,
-            alternate: _,
-            tints: _,
-        } => l,
-        Level::Indexed {
-            block: _,
-            base: _,
-            hival: _,
-        } => nothing(),
+        Level::Indexed { .. } => nothing(),
+        _ => l,
     }
 }
 
@@ -228,23 +203,7 @@ pub fn plain_at(page: &[u8], n: u16) -> Level
 {
     let l = level_at(page, n as u32);
     match l {
-        Level::Plain(c, _) => {
-            if is_named(c) {
-                return nothing();
-            }
-            l
-        }
-        Level::Blank(_) => nothing(),
-        Level::Separation(_) => nothing(),
-        Level::Program {
-            block: _,
-            alternate: _,
-            tints: _,
-        } => nothing(),
-        Level::Indexed {
-            block: _,
-            base: _,
-            hival: _,
-        } => nothing(),
+        Level::Plain(c, _) if !is_named(c) => l,
+        _ => nothing(),
     }
 }

@@ -1,9 +1,9 @@
 // The components of a space, and the ends of their ranges.
-ghost use Rattle.std.specs.Prelude.{◌≡◌, List, ℕ, ◌≤◌, set, replicate};
-ghost use Rattle.fixed.specs.Values.{places, listed};
-ghost use Rattle.space.specs.Spaces.{count_of, limit_count, low_of, high_of};
+ghost use Rattle.std.specs.Prelude.{◌≡◌, List, ℕ, ◌≤◌, pos, set, replicate};
+ghost use Rattle.fixed.specs.Values.{places};
+ghost use Rattle.space.specs.Spaces.{count_of, limit_count};
 ghost use Rattle.space.specs.Pages.{space_at};
-ghost use Rattle.space.specs.Levels.{plain_in, no_ranges, space_in, is_lab};
+ghost use Rattle.space.specs.Levels.{plain_in, no_ranges, space_in, is_lab, Ends};
 
 use crate::nesting::{Level, level_at};
 use cie::Closing;
@@ -18,14 +18,9 @@ pub fn plain_count(c: Closing) -> u32
 {
     match c {
         Closing::Nothing => 0,
-        Closing::Gray => 1,
-        Closing::Rgb => 3,
+        Closing::Gray | Closing::CalGray(_) | Closing::NoMark | Closing::EveryInk => 1,
+        Closing::Rgb | Closing::CalRgb(_) | Closing::Lab(_) => 3,
         Closing::Cmyk => 4,
-        Closing::CalGray(_) => 1,
-        Closing::CalRgb(_) => 3,
-        Closing::Lab(_) => 3,
-        Closing::NoMark => 1,
-        Closing::EveryInk => 1,
     }
 }
 
@@ -35,41 +30,27 @@ pub fn limit_count(c: Closing) -> u32
     ensures small { result ≤ places }
 {
     match c {
-        Closing::Nothing => 0,
-        Closing::Gray => 1,
-        Closing::Rgb => 3,
-        Closing::Cmyk => 4,
-        Closing::CalGray(_) => 1,
-        Closing::CalRgb(_) => 3,
-        Closing::Lab(_) => 3,
         Closing::NoMark => 0,
-        Closing::EveryInk => 1,
+        _ => plain_count(c),
     }
 }
 
 // How many a level has, 0 where there is no space.
+// Kept: 0 as in the definition `count_of`: recipes and palettes are as long as that count says, of no space too.
+#[tactic(auto, using(crate::proofs::Ends::whatever), unfolding(crate::specs::Levels::space_in))]
 pub fn count(l: Level) -> u32
     ensures is { (page : List ℕ) → result ≡ count_of (space_in page l) }
     ensures small { result ≤ places }
 {
     match l {
         Level::Plain(c, _) => plain_count(c),
-        Level::Blank(tints) => taken(tints),
-        Level::Separation(_) => 1,
-        Level::Program {
-            block: _,
-            alternate: _,
-            tints,
-        } => taken(tints),
-        Level::Indexed {
-            block: _,
-            base: _,
-            hival: _,
-        } => 1,
+        Level::Blank(tints) | Level::Program { tints, .. } => taken(tints),
+        Level::Separation(_) | Level::Indexed { .. } => 1,
     }
 }
 
 // How many the space at a number has, 0 where the number is no space's.
+// Kept: 0 as `count` has it.
 pub fn components(page: &[u8], n: u32) -> u32
     ensures is { result ≡ count_of (space_at page.now n) }
     ensures small { result ≤ places }
@@ -77,21 +58,29 @@ pub fn components(page: &[u8], n: u32) -> u32
     count(level_at(page, n))
 }
 
+// The ends of the ranges of a space's components: each list has a place for every value of a colour.
+#[derive(Clone, Copy)]
+pub struct Bounds {
+    pub lo: [i32; VALUES],
+    pub hi: [i32; VALUES],
+}
+
+// Those of a space all of whose components are 0 to 1.
+fn unit_bounds() -> Bounds
+    ensures lows { result.lo ≡ replicate places (pos 0) }
+    ensures highs { result.hi ≡ replicate places (pos 1000000) }
+{
+    Bounds {
+        lo: [0; VALUES],
+        hi: [1000000; VALUES],
+    }
+}
+
 // Whether a closing step is Lab's.
 fn is_lab(c: Closing) -> bool
     ensures { result ≡ is_lab c }
 {
-    match c {
-        Closing::Nothing => false,
-        Closing::Gray => false,
-        Closing::Rgb => false,
-        Closing::Cmyk => false,
-        Closing::CalGray(_) => false,
-        Closing::CalRgb(_) => false,
-        Closing::Lab(_) => true,
-        Closing::NoMark => false,
-        Closing::EveryInk => false,
-    }
+    matches!(c, Closing::Lab(_))
 }
 
 // An end for the first component, one for the second, and one for all others.
@@ -104,64 +93,25 @@ fn ends_of(first: i32, second: i32, others: i32) -> [i32; VALUES]
     ends
 }
 
-// The low end of each component's range in a plain space.
-pub fn plain_lows(c: Closing, q: Ranges) -> [i32; VALUES]
-    ensures { result ≡ listed (low_of (plain_in c q)) places }
+// Those of a plain space: a Lab's by its record.
+pub fn plain_bounds(c: Closing, q: Ranges) -> Bounds
+    ensures { Ends (plain_in c q) result.lo result.hi }
 {
     if is_lab(c) {
-        return ends_of(0, q.amin, q.bmin);
+        return Bounds {
+            lo: ends_of(0, q.amin, q.bmin),
+            hi: ends_of(100000000, q.amax, q.bmax),
+        };
     }
-    [0; VALUES]
+    unit_bounds()
 }
 
-// The high ends.
-pub fn plain_highs(c: Closing, q: Ranges) -> [i32; VALUES]
-    ensures { result ≡ listed (high_of (plain_in c q)) places }
-{
-    if is_lab(c) {
-        return ends_of(100000000, q.amax, q.bmax);
-    }
-    [1000000; VALUES]
-}
-
-// The low end of each component's range in a level's space.
-pub fn lows(l: Level) -> [i32; VALUES]
-    ensures { (page : List ℕ) → result ≡ listed (low_of (space_in page l)) places }
+// Those of a level's space.
+pub fn bounds_of(l: Level) -> Bounds
+    ensures { (page : List ℕ) → Ends (space_in page l) result.lo result.hi }
 {
     match l {
-        Level::Plain(c, q) => plain_lows(c, q),
-        Level::Blank(_) => [0; VALUES],
-        Level::Separation(_) => [0; VALUES],
-        Level::Program {
-            block: _,
-            alternate: _,
-            tints: _,
-        } => [0; VALUES],
-        Level::Indexed {
-            block: _,
-            base: _,
-            hival: _,
-        } => [0; VALUES],
-    }
-}
-
-// The high ends.
-pub fn highs(l: Level) -> [i32; VALUES]
-    ensures { (page : List ℕ) → result ≡ listed (high_of (space_in page l)) places }
-{
-    match l {
-        Level::Plain(c, q) => plain_highs(c, q),
-        Level::Blank(_) => [1000000; VALUES],
-        Level::Separation(_) => [1000000; VALUES],
-        Level::Program {
-            block: _,
-            alternate: _,
-            tints: _,
-        } => [1000000; VALUES],
-        Level::Indexed {
-            block: _,
-            base: _,
-            hival: _,
-        } => [1000000; VALUES],
+        Level::Plain(c, q) => plain_bounds(c, q),
+        _ => unit_bounds(),
     }
 }

@@ -1,12 +1,16 @@
 -- The operators on numbers, of numbers raised so that none is negative.
 use mathlib.Core.Path.{◌≡◌, refl, sym, ap, ◌∙◌}
 use mathlib.Core.Bool.{Bool, true, false, cond, true≢false}
-use Prim.Native.Nat.{ℕ, ◌+◌, ◌*◌, ◌-◌, ◌/◌, ◌≤◌, ◌<◌, ◌^◌}
+use Prim.Native.Nat.{ℕ, ◌+◌, ◌*◌, ◌-◌, ◌/◌, ◌≤◌, ◌<◌, ◌^◌, min}
 use native.Mathlib.Nat.{mul-le-mul}
 use native.Mathlib.Omega.{arith}
-use lib.IntN.{ℤ, pos, negsuc, neg_ℤ, nat_abs, sub_ℕ, ◌+ℤ◌, ◌-ℤ◌, ◌*ℤ◌}
+use lib.IntN.{ℤ, pos, negsuc, neg_ℤ, nat_abs, sub_ℕ, ◌*ℤ◌}
 use lib.Signed.{lt_z}
-use borrow.Author.Tests.{ltb-true}
+use lib.Dec.{ltb}
+use native.Mathlib.Decide.{dec_lt}
+use mir.Syntax.{w32}
+use Rattle.std.specs.Int.{saturate_signed}
+use borrow.Author.Tests.{ltb-true, lt-ltb, le-ltb}
 use Rattle.fixed.specs.Numbers.{limited, half_up}
 use Rattle.fixed.proofs.Diff as D
 use Rattle.fixed.proofs.Diff.{Diff, of-pos, of-sub, of_eq, shift, lt_yes, lt_no, half_at, sub_at}
@@ -18,6 +22,20 @@ least = record { eq = omega arith }
 
 greatest : Diff (pos 2147483647) 2147483647 0
 greatest = of-pos 2147483647
+
+-- a saturating sum of the library is the nearest that fits
+pub saturated : (z : ℤ) → saturate_signed w32 z ≡ fitted z
+unfolding fitted limited
+saturated (pos n) = by (dec_lt 2147483647 n)
+  where
+    by : Dec (2147483647 < n) → pos (min n 2147483647) ≡ cond (ltb 2147483647 n) (pos 2147483647) (pos n)
+    by (yes p) = simp (lt-ltb 2147483647 n p) (ap pos (let e : min n 2147483647 ≡ 2147483647 = omega arith in e))
+    by (no p) = let h : n ≤ 2147483647 = omega arith in simp (le-ltb 2147483647 n h) (ap pos (let e : min n 2147483647 ≡ n = omega arith in e))
+saturated (negsuc n) = by (dec_lt 2147483647 n)
+  where
+    by : Dec (2147483647 < n) → negsuc (min n 2147483647) ≡ cond (ltb 2147483647 n) (negsuc 2147483647) (negsuc n)
+    by (yes p) = simp (lt-ltb 2147483647 n p) (ap negsuc (let e : min n 2147483647 ≡ 2147483647 = omega arith in e))
+    by (no p) = let h : n ≤ 2147483647 = omega arith in simp (le-ltb 2147483647 n h) (ap negsuc (let e : min n 2147483647 ≡ n = omega arith in e))
 
 module _ (q k : ℕ) where
   pub fit_low : q + 2147483648 < k → negsuc 2147483647 ≡ fitted (sub_ℕ q k)
@@ -31,31 +49,6 @@ module _ (q k : ℕ) where
   pub fit_mid : k ≤ q + 2147483648 → q ≤ k + 2147483647 → (u : ℕ) → u + k ≡ q + 2147483648 → sub_ℕ u (2 ^ 31) ≡ fitted (sub_ℕ q k)
   unfolding fitted limited
   fit_mid h g u e = simp (lt_no (of-sub q k) least (omega arith), lt_no greatest (of-sub q k) (omega arith)) (sub_at (of-sub u (2 ^ 31)) q k (omega arith))
-
-module _ (a b : ℕ) (x y : ℤ) (e : x ≡ sub_ℕ a (2 ^ 31)) (f : y ≡ sub_ℕ b (2 ^ 31)) where
-  pub sum_is : fitted (sub_ℕ (a + b) 4294967296) ≡ fitted (x +ℤ y)
-  sum_is = ap fitted (sym (sub_at (D.add (of_eq a (2 ^ 31) e) (of_eq b (2 ^ 31) f)) (a + b) 4294967296 (omega arith)))
-
-  pub difference-is : b ≤ a + 4294967296 → fitted (sub_ℕ (a + 4294967296 - b) 4294967296) ≡ fitted (x -ℤ y)
-  difference-is h = ap fitted (sym (sub_at (D.sub (of_eq a (2 ^ 31) e) (of_eq b (2 ^ 31) f)) (a + 4294967296 - b) 4294967296 (omega arith)))
-
-module _ (a : ℕ) (x : ℤ) (e : x ≡ sub_ℕ a (2 ^ 31)) where
-  pub negative-is : a < 2 ^ 32 → fitted (sub_ℕ (4294967296 - a) 2147483648) ≡ fitted (neg_ℤ x)
-  negative-is h = ap fitted (sym (sub_at (D.neg (of_eq a (2 ^ 31) e)) (4294967296 - a) 2147483648 (omega arith)))
-
-  away : (z : ℤ) → Diff z a (2 ^ 31) → a < 2147483648 → 2147483648 - a ≡ nat_abs z
-  away (pos n) d h = absurd (omega arith)
-  away (negsuc n) d h = omega arith
-
-  up_from : (z : ℤ) → Diff z a (2 ^ 31) → 2147483648 ≤ a → a - 2147483648 ≡ nat_abs z
-  up_from (pos n) d h = omega arith
-  up_from (negsuc n) d h = absurd (omega arith)
-
-  pub size_low : a < 2147483648 → 2147483648 - a ≡ nat_abs x
-  size_low h = away x (of_eq a (2 ^ 31) e) h
-
-  pub size-high : 2147483648 ≤ a → a - 2147483648 ≡ nat_abs x
-  size-high h = up_from x (of_eq a (2 ^ 31) e) h
 
 pub product_small : (m n : ℕ) → m ≤ 2147483648 → n ≤ 2147483648 → m * n ≤ 4611686018427387904
 product_small m n h g = mul-le-mul h g

@@ -2,8 +2,6 @@
 pub mod Same
 pub mod Fits
 pub mod Stacks
-pub mod Acts
-pub mod Reading
 pub mod Runs
 pub mod Heights
 pub mod Strict

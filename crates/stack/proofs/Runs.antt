@@ -13,6 +13,9 @@ use borrow.Author.Tests.{le-ltb}
 use Rattle.stack.specs.Programs.{add, sub, mul, equal, unequal, above, at_least, below, at_most, both, any, sum, test, join, neg, abs, nay, Op, number, copy, index, roll, two, one, constant, pop, exch, dup, Code, done, act, when, either}
 use Rattle.stack.specs.Operators.{applied}
 use Rattle.stack.specs.Meaning.{holds, when_done, either_done, ran}
+use Rattle.stack.specs.Meant.{item_meant}
+use Rattle.stack.specs.declared.items.Item as I
+use Rattle.stack.specs.declared.items.Item.TheVariants as IV
 use Rattle.stack.specs.Flat.{word_of, counts_of, words_of, when_words, either_words, flat, Item, op, unless, jump, none, two_by, one_by, plain_by, op_by, code_of, item_by, item_of, goes, runs, move_of, after_item}
 
 -- words that are passed over are dropped
@@ -142,25 +145,21 @@ flat-is-nested c s = ap (λ (x : List ℤ). runs x s) (sym (append-nil (flat c))
 
 -- ---- the loop's turn
 
-does_move : (i : Item) (w : ℤ) (ws s : List ℤ) → (move_of i (holds s) ≡ 0 → ⊥) → does i ws s ≡ runs (drop (move_of i (holds s)) (w ∷ ws)) (after_item i s)
+does_move : (i : Item) (w : ℤ) (ws s : List ℤ) → (i ≡ none → ⊥) → does i ws s ≡ runs (drop (move_of i (holds s)) (w ∷ ws)) (after_item i s)
 does_move (op o n) w ws s ne = refl
 does_move (unless k) w ws s ne = refl
 does_move (jump k) w ws s ne = refl
 does_move none w ws s ne = absurd (ne refl)
 
-does-stop : (i : Item) (ws s : List ℤ) → move_of i (holds s) ≡ 0 → does i ws s ≡ s
-does-stop (op o n) ws s e = absurd (omega arith)
-does-stop (unless k) ws s e = absurd (omega arith)
-does-stop (jump k) ws s e = absurd (omega arith)
-does-stop none ws s e = refl
+runs-move : (l s : List ℤ) {i : Item} → item_of l ≡ i → (i ≡ none → ⊥) → runs l s ≡ runs (drop (move_of i (holds s)) l) (after_item i s)
+unfolding item_by code_of
+runs-move [] s e ne = absurd (ne (sym e))
+runs-move (w ∷ ws) s {i} e ne = runs-item w ws s ∙ (ap (λ (i : Item). does i ws s) e ∙ does_move i w ws s ne)
 
-runs-move : (l s : List ℤ) → 0 < length l → (move_of (item_of l) (holds s) ≡ 0 → ⊥) → runs l s ≡ runs (drop (move_of (item_of l) (holds s)) l) (after_item (item_of l) s)
-runs-move [] s lt ne = absurd (omega arith)
-runs-move (w ∷ ws) s lt ne = runs-item w ws s ∙ does_move (item_of (w ∷ ws)) w ws s ne
-
-runs-stop : (l s : List ℤ) → 0 < length l → move_of (item_of l) (holds s) ≡ 0 → runs l s ≡ s
-runs-stop [] s lt e = absurd (omega arith)
-runs-stop (w ∷ ws) s lt e = runs-item w ws s ∙ does-stop (item_of (w ∷ ws)) ws s e
+runs-stop : (l s : List ℤ) → item_of l ≡ none → s ≡ runs l s
+unfolding goes
+runs-stop [] s e = refl
+runs-stop (w ∷ ws) s e = sym (runs-item w ws s ∙ ap (λ (i : Item). does i ws s) e)
 
 pub runs_none : (s : List ℤ) → runs [] s ≡ s
 unfolding goes
@@ -169,29 +168,25 @@ runs_none s = refl
 pub part-is : (ws : List ℤ) (at : ℕ) → take (length ws - at) (drop at ws) ≡ drop at ws
 part-is ws at = take_all (length ws - at) (drop at ws) (rw length-drop (le_refl _))
 
--- what is known where a turn read m and t of the words from `at` on
-module _ (ws : List ℤ) (at : ℕ) (s : List ℤ) (here : at < length ws) {t : Bool} {m : ℕ} (t-is : t ≡ holds s) (m-is : m ≡ move_of (item_of (take (length ws - at) (drop at ws))) t) where
-  abbrev rest : List ℤ
-  rest = drop at ws
+-- what the code reads is an item
+pub meant_there : (x : I.Item) → item_meant x ≡ none → ⊥
+meant_there (IV.Op o) e = cc
+meant_there (IV.Unless n) e = cc
+meant_there (IV.Jump n) e = cc
 
-  more : 0 < length rest
-  more = rw length-drop (omega arith)
+-- a turn that read i of the words from `at` on
+module _ (ws : List ℤ) (at : ℕ) (s : List ℤ) {i : Item} (i-is : item_of (take (length ws - at) (drop at ws)) ≡ i) where
+  i-plain : item_of (drop at ws) ≡ i
+  i-plain = sym (ap item_of (part-is ws at)) ∙ i-is
 
-  m-plain : m ≡ move_of (item_of rest) (holds s)
-  m-plain = m-is ∙ (ap (λ (l : List ℤ). move_of (item_of l) t) (part-is ws at) ∙ ap (move_of (item_of rest)) t-is)
+  pub turn-stops : i ≡ none → s ≡ runs (drop at ws) s
+  turn-stops e = runs-stop (drop at ws) s (i-plain ∙ e)
 
-  pub turn-stops : m ≡ 0 → s ≡ runs rest s
-  turn-stops e = sym (runs-stop rest s more (sym m-plain ∙ e))
-
-  module _ (ne : m ≡ 0 → ⊥) {u : List ℤ} (u-is : u ≡ after_item (item_of (take (length ws - at) (drop at ws))) s) where
-    u-plain : u ≡ after_item (item_of rest) s
-    u-plain = u-is ∙ ap (λ (l : List ℤ). after_item (item_of l) s) (part-is ws at)
-
-    pub turn-goes : runs (drop (at + m) ws) u ≡ runs rest s
+  module _ (ne : i ≡ none → ⊥) {m : ℕ} {t : Bool} {u : List ℤ} (m-is : m ≡ move_of i t) (t-is : t ≡ holds s) (u-is : u ≡ after_item i s) where
+    pub turn-goes : runs (drop (at + m) ws) u ≡ runs (drop at ws) s
     turn-goes =
         ap (λ (l : List ℤ). runs l u) (sym (drop-drop m at ws))
-        ∙ (ap (λ (k : ℕ). runs (drop k rest) u) m-plain
-        ∙ (ap (runs (drop (move_of (item_of rest) (holds s)) rest)) u-plain ∙ sym (runs-move rest s more (λ e. ne (m-plain ∙ e)))))
+        ∙ ((λ j. runs (drop ((m-is ∙ ap (move_of i) t-is) j) (drop at ws)) (u-is j)) ∙ sym (runs-move (drop at ws) s i-plain ne))
 
-    pub turn-ends : length ws - at < m → u ≡ runs rest s
+    pub turn-ends : length ws - at < m → u ≡ runs (drop at ws) s
     turn-ends lt = let k : length ws ≤ at + m = omega arith in sym (runs_none u) ∙ (ap (λ (l : List ℤ). runs l u) (sym (drop_of_length-le ws k)) ∙ turn-goes)

@@ -1,18 +1,22 @@
 -- The stack in an array: what a store, a pop and a read are of the list.
 use mathlib.Core.Path.{◌≡◌, refl, sym, ap, ◌∙◌}
-use mathlib.Core.Bool.{Bool, true, false, cond}
-use mathlib.Core.List.{List, ◌∷◌, ◌++◌}
-use Prim.Native.Nat.{ℕ, zero, suc, ◌+◌, ◌-◌, ◌≤◌, ◌<◌}
+use mathlib.Core.List.{List, [], ◌∷◌, ◌++◌, append_assoc, reverse}
+use Prim.Native.Nat.{ℕ, zero, suc, ◌+◌, ◌-◌, ◌%◌, ◌≤◌, ◌<◌}
+use native.Mathlib.Nat.{mod-lt}
 use native.Mathlib.Omega.{arith}
-use lib.IntN.{ℤ, pos}
-use lib.Dec.{ltb, eqb}
-use lib.ListN.{length, get_or, set, take, drop, length-append, length-drop, length-set, take-append-drop, get_or-append, get_or-eq_default}
-use lib.ListN.{drop_of_length-le}
-use lib.Seq.{drop-cons, take-nil, get_or-set_same, get_or-set_other, get_or-take, get_or-drop, get_or-append-add, length-take-le, drop-nil, ext_get_or}
-use borrow.Author.Tests.{le-ltb, lt-ltb, le-leb, lt-leb, ltb-true, ltb-false, eqb-true, eqb-false}
-use Rattle.stack.specs.Stack.{pushed, copied, rolled}
+use lib.IntN.{ℤ, pos, negsuc}
+use lib.ListN.{length, get_or, set, take, drop, length-append, length-drop, length-take, length-set, take-append-drop, get_or-eq_default}
+use lib.Seq.{take-nil, take-suc, take-add, take_all, get_or-set_same, get_or-set_other, length-take-le, drop-nil}
+use borrow.Rule.Slice.PartMut.{put_mid}
+use Rattle.std.specs.List.{copy_within, slice_rotate_right, swap}
+use Rattle.std.specs.Int.{int_rem_euclid}
+use Rattle.std.proofs.lemmas.List.{reverse-append, length-reverse, take_at, drop_at}
+use Rattle.std.proofs.lemmas.List.Edits.{take-paste, swap_is}
+use Rattle.std.proofs.lemmas.Slice.{take-put_mid}
+use borrow.Author.Tests.{le-ltb, lt-ltb, le-leb, lt-leb}
+use Rattle.stack.specs.Stack.{pushed, copied, rolled, turns}
 use Rattle.fixed.specs.Values.{value}
-use Rattle.stack.specs.Memory.{turned, stack_of}
+use Rattle.stack.specs.Memory.{stack_of}
 
 pub stack-length : (a : List ℤ) (h : ℕ) → length (stack_of a h) ≡ h
 unfolding stack_of
@@ -61,46 +65,31 @@ pub push-full : (a : List ℤ) (h : ℕ) (x : ℤ) → 100 ≤ h → stack_of a 
 unfolding pushed
 push-full a h x m = let k : 100 ≤ length (stack_of a h) = rw (stack-length a h) m in simp (le-ltb (length (stack_of a h)) 100 k)
 
--- ---- roll, value by value
+-- ---- the stack from the array's first h values
 
-pub rolled-low : (n k p : ℕ) (s : List ℤ) → n ≤ length s → k ≤ n → p < n → value (rolled n k s) p ≡ value s (turned n k p)
-unfolding rolled
-rolled-low n k p s hn hk hp = simp (le-leb n (length s) hn) (by (ltb (p + k) n) refl)
-  where
-    by : (t : Bool) → ltb (p + k) n ≡ t → value (drop k (take n s) ++ (take k (take n s) ++ drop n s)) p ≡ value s (cond t (p + k) (p + k - n))
-    by true e =
-        let lt : p + k < n = ltb-true _ _ e in
-        let len : length (drop k (take n s)) ≡ n - k = rw (length-drop, length-take-le n s hn) in
-        let inn : p < length (drop k (take n s)) = rw len (omega arith) in
-        let lk : k + p < n = omega arith in
-        get_or-append (drop k (take n s)) _ (pos 0) p inn
-        ∙ (get_or-drop k (take n s) p (pos 0) ∙ (get_or-take n s (k + p) (pos 0) lk ∙ ap (value s) (let f : k + p ≡ p + k = omega arith in f)))
-    by false e =
-        let ge : n ≤ p + k = ltb-false _ _ e in
-        let len : length (drop k (take n s)) ≡ n - k = rw (length-drop, length-take-le n s hn) in
-        let at : p ≡ length (drop k (take n s)) + (p + k - n) = rw len (omega arith) in
-        let hs : k ≤ length (take n s) = rw (length-take-le n s hn) hk in
-        let inn : p + k - n < length (take k (take n s)) = rw (length-take-le k (take n s) hs) (omega arith) in
-        let ln : p + k - n < n = omega arith in
-        let lk : p + k - n < k = omega arith in
-        ap (value (drop k (take n s) ++ (take k (take n s) ++ drop n s))) at
-        ∙ (get_or-append-add (drop k (take n s)) (take k (take n s) ++ drop n s) (p + k - n) (pos 0)
-        ∙ (get_or-append (take k (take n s)) (drop n s) (pos 0) (p + k - n) inn ∙ (get_or-take k (take n s) (p + k - n) (pos 0) lk ∙ get_or-take n s (p + k - n) (pos 0) ln)))
+pub stack_reverse : (a : List ℤ) (h : ℕ) → h ≤ length a → stack_of a h ≡ reverse (take h a)
+unfolding stack_of
+stack_reverse a zero le = refl
+stack_reverse a (suc h) le =
+    let lt : h < length a = omega arith in
+    let m : h ≤ length a = omega arith in
+    ap (λ (s : List ℤ). get_or a h (pos 0) ∷ s) (stack_reverse a h m)
+    ∙ sym (ap reverse (take-suc a h (pos 0) lt) ∙ reverse-append (take h a) (get_or a h (pos 0) ∷ []))
 
-pub rolled-high : (n k p : ℕ) (s : List ℤ) → n ≤ length s → k ≤ n → n ≤ p → value (rolled n k s) p ≡ value s p
-unfolding rolled
-rolled-high n k p s hn hk hp =
-    let len : length (drop k (take n s)) ≡ n - k = rw (length-drop, length-take-le n s hn) in
-    let hs : k ≤ length (take n s) = rw (length-take-le n s hn) hk in
-    let len2 : length (take k (take n s)) ≡ k = length-take-le k (take n s) hs in
-    let at : p ≡ length (drop k (take n s)) + (k + (p - n)) = rw len (omega arith) in
-    let at2 : k + (p - n) ≡ length (take k (take n s)) + (p - n) = rw len2 refl in
-    simp (le-leb n (length s) hn)
-    (ap (value (drop k (take n s) ++ (take k (take n s) ++ drop n s))) at
-    ∙ (get_or-append-add (drop k (take n s)) (take k (take n s) ++ drop n s) (k + (p - n)) (pos 0)
-    ∙ (ap (value (take k (take n s) ++ drop n s)) at2
-    ∙ (get_or-append-add (take k (take n s)) (drop n s) (p - n) (pos 0)
-    ∙ (get_or-drop n s (p - n) (pos 0) ∙ ap (value s) (let f : n + (p - n) ≡ p = omega arith in f))))))
+-- the values of a stack, as a slice
+pub stack_part : (a : List ℤ) (h : ℕ) → h ≤ length a → stack_of (take h a) (length (take h a)) ≡ stack_of a h
+stack_part a h le =
+    let n : length (take h a) ≡ h = length-take-le h a le in
+    let m : length (take h a) ≤ length (take h a) = omega arith in
+    stack_reverse (take h a) (length (take h a)) m ∙ (ap reverse (take_all (length (take h a)) (take h a) m) ∙ sym (stack_reverse a h le))
+
+-- the same where the first h values are known
+pub stack_is : (a : List ℤ) (h : ℕ) {xs : List ℤ} → take h a ≡ xs → length xs ≡ h → stack_of a h ≡ reverse xs
+stack_is a h {xs} e n =
+    let m : h ≤ length a = omega (arith, length-take h a, ap length e) in
+    stack_reverse a h m ∙ ap reverse e
+
+-- ---- roll
 
 -- of any values, so of kinds too
 pub roll-length : {A : Type 0} (n k : ℕ) (l : List A) → length (drop k (take n l) ++ (take k (take n l) ++ drop n l)) ≡ length l
@@ -111,79 +100,77 @@ roll-length n k l =
     length-append (drop k (take n l)) (take k (take n l) ++ drop n l)
     ∙ (ap (λ (m : ℕ). length (drop k (take n l)) + m) (length-append (take k (take n l)) (drop n l)) ∙ e)
 
-pub rolled-length : (n k : ℕ) (s : List ℤ) → n ≤ length s → k ≤ n → length (rolled n k s) ≡ length s
+-- below lie p, on them x and y, and y is k values
+pub rolled_parts : (n k : ℕ) (p x y : List ℤ) → length x + length y ≡ n → length y ≡ k → reverse (p ++ (y ++ x)) ≡ rolled n k (reverse (p ++ (x ++ y)))
 unfolding rolled
-rolled-length n k s hn hk = simp (le-leb n (length s) hn) (roll-length n k s)
+rolled_parts n k p x y en ek =
+    let ly : length (reverse y) ≡ k = length-reverse y ∙ ek in
+    let lt : length (reverse y ++ reverse x) ≡ n = length-append (reverse y) (reverse x) ∙ (let a : length (reverse y) ≡ length y = length-reverse y in let b : length (reverse x) ≡ length x = length-reverse x in omega arith) in
+    let old : reverse (p ++ (x ++ y)) ≡ (reverse y ++ reverse x) ++ reverse p = reverse-append p (x ++ y) ∙ ap (λ (s : List ℤ). s ++ reverse p) (reverse-append x y) in
+    let le : n ≤ length ((reverse y ++ reverse x) ++ reverse p) = omega (arith, length-append (reverse y ++ reverse x) (reverse p)) in
+    reverse-append p (y ++ x)
+    ∙ (ap (λ (s : List ℤ). s ++ reverse p) (reverse-append y x)
+    ∙ (append_assoc (reverse x) (reverse y) (reverse p)
+    ∙ sym (ap (rolled n k) old
+    ∙ simp (le-leb n (length ((reverse y ++ reverse x) ++ reverse p)) le)
+    ((λ i. drop k (take_at (reverse y ++ reverse x) (reverse p) n lt i) ++ (take k (take_at (reverse y ++ reverse x) (reverse p) n lt i) ++ drop_at (reverse y ++ reverse x) (reverse p) n lt i))
+    ∙ (λ i. drop_at (reverse y) (reverse x) k ly i ++ (take_at (reverse y) (reverse x) k ly i ++ reverse p))))))
 
--- the loop: the first i below the top are in place
-abbrev pub from_of : ℕ → ℕ → ℕ → ℕ → ℕ
-from_of n k i p = cond (ltb p i) (turned n k p) p
-
-pub record Rolling (a b : List ℤ) (h n k i : ℕ) : Type 0 where
-  pub most-i : i ≤ n
-  pub long : h ≤ length b
-  pub is : (p : ℕ) → p < h → get_or b (h - 1 - p) (pos 0) ≡ get_or a (h - 1 - from_of n k i p) (pos 0)
-
-pub rolling-start : (a : List ℤ) (h n k : ℕ) → h ≤ length a → Rolling a a h n k 0
-rolling-start a h n k le = record { most-i = omega arith; long = le; is = λ p lt. let e : 0 ≤ p = omega arith in simp (le-ltb p 0 e) }
-
--- a place other than the one stored to
-before-after : (p i : ℕ) → (p ≡ i → ⊥) → ltb p (i + 1) ≡ ltb p i
-before-after p i ne = by (ltb p i) refl
+-- the top n are the part from h - n on, rotated
+pub roll_is : (a ys : List ℤ) (h n k : ℕ) → h ≤ length a → n ≤ h → k ≤ n → ys ≡ slice_rotate_right (take (h - (h - n)) (drop (h - n) a)) k
+    → stack_of (put_mid (h - n) (h - (h - n)) a ys) h ≡ rolled n k (stack_of a h)
+roll_is a ys h n k le hn hk e =
+    let lm : length mid ≡ n = length-take-le (h - (h - n)) (drop (h - n) a) (rw length-drop (omega arith)) ∙ (let f : h - (h - n) ≡ n = omega arith in f) in
+    let lp : length p ≡ h - n = length-take-le (h - n) a (omega arith) in
+    let lx : length x ≡ length mid - k = length-take-le (length mid - k) mid (omega arith) in
+    let ly : length y ≡ length mid - (length mid - k) = length-drop (length mid - k) mid in
+    let lyx : length ys ≡ n = ap length e ∙ (length-append y x ∙ (let f : length y + length x ≡ n = omega arith in f)) in
+    let new : take h (put_mid (h - n) (h - (h - n)) a ys) ≡ p ++ (y ++ x) = take-put_mid (h - n) (h - (h - n)) a ys h (omega arith) (omega arith) ∙ ap (λ (z : List ℤ). p ++ z) e in
+    let old : take h a ≡ p ++ (x ++ y) = ap (λ (m : ℕ). take m a) (let f : h ≡ (h - n) + (h - (h - n)) = omega arith in f) ∙ (take-add (h - n) (h - (h - n)) a ∙ ap (λ (z : List ℤ). p ++ z) (sym (take-append-drop (length mid - k) mid))) in
+    stack_is _ h new (length-append p (y ++ x) ∙ (let f : length (y ++ x) ≡ n = sym (ap length e) ∙ lyx in let g : length p + length (y ++ x) ≡ h = omega arith in g))
+    ∙ (rolled_parts n k p x y (omega arith) (omega arith) ∙ ap (rolled n k) (sym (stack_reverse a h le ∙ ap reverse old)))
   where
-    by : (t : Bool) → ltb p i ≡ t → ltb p (i + 1) ≡ t
-    by true e = let l : p < i + 1 = omega (arith, ltb-true p i e) in lt-ltb _ _ l
-    by false e = let l : i + 1 ≤ p = omega (arith, ltb-false p i e) in le-ltb _ _ l
+    p : List ℤ
+    p = take (h - n) a
 
-pub rolling-turn : (a b : List ℤ) (h n k i j : ℕ) (x : ℤ) → Rolling a b h n k i → n ≤ h → i < n → j ≡ turned n k i → x ≡ get_or a (h - 1 - j) (pos 0) → Rolling a (set b (h - 1 - i) x) h n k (i + 1)
-rolling-turn a b h n k i j x r hn lt ej ex = record { most-i = omega arith; long = rw length-set r.long; is = λ p hp. by p hp (eqb p i) refl }
-  where
-    by : (p : ℕ) → p < h → (u : Bool) → eqb p i ≡ u → get_or (set b (h - 1 - i) x) (h - 1 - p) (pos 0) ≡ get_or a (h - 1 - from_of n k (i + 1) p) (pos 0)
-    by p hp true f =
-        let e : p ≡ i = eqb-true _ _ f in
-        let l : i < i + 1 = omega arith in
-        let m : h - 1 - i < length b = omega (arith, r.long) in
-        ap (λ (q : ℕ). get_or (set b (h - 1 - i) x) (h - 1 - q) (pos 0)) e
-        ∙ (get_or-set_same b (h - 1 - i) x (pos 0) m ∙ (ex ∙ simp (e, lt-ltb i (i + 1) l, ej)))
-    by p hp false f =
-        let ne : p ≡ i → ⊥ = eqb-false _ _ f in
-        let m : h - 1 - p ≡ h - 1 - i → ⊥ = λ e. ne (omega arith) in
-        get_or-set_other b (h - 1 - i) (h - 1 - p) x (pos 0) m ∙ (r.is p hp ∙ ap (λ (t : Bool). get_or a (h - 1 - cond t (turned n k p) p) (pos 0)) (sym (before-after p i ne)))
+    mid : List ℤ
+    mid = take (h - (h - n)) (drop (h - n) a)
 
-turned-less : (n k p : ℕ) → k ≤ n → p < n → turned n k p < n
-turned-less n k p hk hp = by (ltb (p + k) n) refl
-  where
-    by : (t : Bool) → ltb (p + k) n ≡ t → cond t (p + k) (p + k - n) < n
-    by true e = ltb-true (p + k) n e
-    by false e = omega (arith, ltb-false (p + k) n e)
+    x : List ℤ
+    x = take (length mid - k) mid
 
-pub rolling-end : (a b : List ℤ) (h n k i : ℕ) → Rolling a b h n k i → n ≤ h → k ≤ n → n ≤ i → stack_of b h ≡ rolled n k (stack_of a h)
-rolling-end a b h n k i r hn hk le =
-    let l : n ≤ length (stack_of a h) = rw (stack-length a h) hn in
-    ext_get_or (pos 0) (stack_of b h) (rolled n k (stack_of a h)) (stack-length b h ∙ (sym (stack-length a h) ∙ sym (rolled-length n k (stack_of a h) l hk)))
-    (λ p lt. let hp : p < h = rw (stack-length b h) at lt in stack-get b h p hp ∙ (r.is p hp ∙ by l p hp (ltb p i) refl))
-  where
-    by : n ≤ length (stack_of a h) → (p : ℕ) → p < h → (t : Bool) → ltb p i ≡ t → get_or a (h - 1 - cond t (turned n k p) p) (pos 0) ≡ value (rolled n k (stack_of a h)) p
-    by l p hp true e =
-        let m : i ≤ n = r.most-i in
-        let q : p < n = omega (arith, ltb-true p i e) in
-        let u : turned n k p < h = omega (arith, turned-less n k p hk q) in
-        sym (rolled-low n k p (stack_of a h) l hk q ∙ stack-get a h (turned n k p) u)
-    by l p hp false e =
-        let q : n ≤ p = omega (arith, ltb-false p i e) in
-        sym (rolled-high n k p (stack_of a h) l hk q ∙ stack-get a h p hp)
+    y : List ℤ
+    y = drop (length mid - k) mid
 
--- ---- a stack in two arrays that agree
+-- j modulo n
+pub turns_is : (j : ℤ) (n : ℕ) → int_rem_euclid j (pos n) ≡ pos (turns j n)
+turns_is (pos j) n = refl
+turns_is (negsuc j) n = refl
 
-pub stack_same : (a b : List ℤ) (h : ℕ) → ((k : ℕ) → k < h → get_or a k (pos 0) ≡ get_or b k (pos 0)) → stack_of a h ≡ stack_of b h
-unfolding stack_of
-stack_same a b zero e = refl
-stack_same a b (suc h) e =
-    ap (λ (z : ℤ). z ∷ stack_of a h) (e h (omega arith)) ∙ ap (λ (s : List ℤ). get_or b h (pos 0) ∷ s) (stack_same a b h (λ k lt. e k (omega arith)))
+pub turns_le : (j : ℤ) (n : ℕ) → 0 < n → turns j n ≤ n
+turns_le (pos j) n h = let q : j % n < n = mod-lt j h in omega arith
+turns_le (negsuc j) n h = omega arith
 
-pub rolling-from : (w a : List ℤ) (h n k : ℕ) → h ≤ 100 → 100 ≤ length a → ((j : ℕ) → j < 100 → get_or w j (pos 0) ≡ get_or a j (pos 0)) → Rolling w a h n k 0
-rolling-from w a h n k le m e =
-    record { most-i = omega arith; long = omega arith; is = λ p lt. let z : 0 ≤ p = omega arith in let q : h - 1 - p < 100 = omega arith in simp (le-ltb p 0 z) (sym (e (h - 1 - p) q)) }
+-- the top two exchanged
+pub exchange_is : (a : List ℤ) (h : ℕ) → 2 ≤ h → h ≤ length a → stack_of (swap a (h - 1) (h - 2)) h ≡ rolled 2 1 (stack_of a h)
+unfolding stack_of rolled
+exchange_is a zero l m = absurd (omega arith)
+exchange_is a (suc zero) l m = absurd (omega arith)
+exchange_is a (suc (suc g)) l m =
+    let i : suc g < length a = omega arith in
+    let j : g < length a = omega arith in
+    let k : g < length (set a (suc g) (get_or a g (pos 0))) = rw length-set j in
+    let up : suc g ≡ g → ⊥ = omega arith in
+    let over : g ≤ suc g = omega arith in
+    let same : g ≤ g = omega arith in
+    let le : 2 ≤ suc (suc (length (stack_of a g))) = omega arith in
+    (λ t. stack_of (swap a (let d : suc (suc g) - 1 ≡ suc g = omega arith in d t) (let d : suc (suc g) - 2 ≡ g = omega arith in d t)) (suc (suc g)))
+    ∙ (ap (λ (b : List ℤ). stack_of b (suc (suc g))) (sym (swap_is a (suc g) g (pos 0) i j))
+    ∙ ((λ t.
+    (get_or-set_other (set a (suc g) (get_or a g (pos 0))) g (suc g) (get_or a (suc g) (pos 0)) (pos 0) up ∙ get_or-set_same a (suc g) (get_or a g (pos 0)) (pos 0) i) t
+    ∷ get_or-set_same (set a (suc g) (get_or a g (pos 0))) g (get_or a (suc g) (pos 0)) (pos 0) k t
+    ∷ (stack_set (set a (suc g) (get_or a g (pos 0))) g g (get_or a (suc g) (pos 0)) same ∙ stack_set a g (suc g) (get_or a g (pos 0)) over) t)
+    ∙ simp (le-leb 2 (suc (suc (length (stack_of a g)))) le)))
 
 pub rolled-short : (n k : ℕ) (s : List ℤ) → length s < n → s ≡ rolled n k s
 unfolding rolled
@@ -193,41 +180,38 @@ pub rolled-none : (k : ℕ) (s : List ℤ) → s ≡ rolled 0 k s
 unfolding rolled
 rolled-none k s = let z : 0 ≤ length s = omega arith in simp (le-leb 0 (length s) z) (simp (drop-nil {A = ℤ} k, take-nil {A = ℤ} k))
 
--- ---- a copy, one value at a time
+-- ---- a copy of the top n
 
-module _ (n : ℕ) (s : List ℤ) (hn : n ≤ length s) where
-  taken : length (take n s) ≡ n
-  taken = length-take-le n s hn
+-- below lie p, on them x, which is n values
+copied_parts : (n : ℕ) (p x : List ℤ) → length x ≡ n → length (reverse (p ++ x)) + n ≤ 100 → reverse ((p ++ x) ++ x) ≡ copied n (reverse (p ++ x))
+unfolding copied
+copied_parts n p x e room =
+    let lx : length (reverse x) ≡ n = length-reverse x ∙ e in
+    let s : reverse (p ++ x) ≡ reverse x ++ reverse p = reverse-append p x in
+    let le : n ≤ length (reverse (p ++ x)) = omega (arith, ap length s, length-append (reverse x) (reverse p)) in
+    reverse-append (p ++ x) x
+    ∙ sym (simp (le-leb n (length (reverse (p ++ x))) le, le-leb (length (reverse (p ++ x)) + n) 100 room)
+    (ap (λ (z : List ℤ). z ++ reverse (p ++ x)) (ap (take n) s ∙ take_at (reverse x) (reverse p) n lx)))
 
-  pub copy_start : s ≡ drop (n - 0) (take n s) ++ s
-  copy_start = let h : length (take n s) ≤ n - 0 = omega (arith, taken) in sym (ap (λ (l : List ℤ). l ++ s) (drop_of_length-le (take n s) h))
+pub copy_is : (a : List ℤ) (h n : ℕ) → h + n ≤ 100 → 100 ≤ length a → n ≤ h → stack_of (copy_within a (h - n) h h) (h + n) ≡ copied n (stack_of a h)
+copy_is a h n room le hn =
+    let en : h - (h - n) ≡ n = omega arith in
+    let ld : n ≤ length (drop (h - n) a) = rw length-drop (omega arith) in
+    let lx : length x ≡ n = length-take-le (h - (h - n)) (drop (h - n) a) (omega arith) ∙ en in
+    let lp : length p ≡ h - n = length-take-le (h - n) a (omega arith) in
+    let old : take h a ≡ p ++ x = ap (λ (m : ℕ). take m a) (let f : h ≡ (h - n) + (h - (h - n)) = omega arith in f) ∙ take-add (h - n) (h - (h - n)) a in
+    let new : take (h + n) (copy_within a (h - n) h h) ≡ (p ++ x) ++ x =
+    ap (λ (m : ℕ). take (h + m) (copy_within a (h - n) h h)) (sym en) ∙ (take-paste a h (drop (h - n) a) (h - (h - n)) (omega arith) (omega arith) ∙ ap (λ (z : List ℤ). z ++ x) old) in
+    let lpx : length (p ++ x) ≡ h = length-append p x ∙ (let f : length p + length x ≡ h = omega arith in f) in
+    let m : h ≤ length a = omega arith in
+    stack_is _ (h + n) new (length-append (p ++ x) x ∙ (let f : length (p ++ x) + length x ≡ h + n = omega arith in f))
+    ∙ (copied_parts n p x lx (rw length-reverse (omega arith)) ∙ ap (copied n) (sym (stack_reverse a h m ∙ ap reverse old)))
+  where
+    p : List ℤ
+    p = take (h - n) a
 
-  module _ (room : length s + n ≤ 100) (i : ℕ) (lt : i < n) where
-    part : length (drop (n - i) (take n s)) ≡ i
-    part = length-drop (n - i) (take n s) ∙ (ap (λ (m : ℕ). m - (n - i)) taken ∙ (let e : n - (n - i) ≡ i = omega arith in e))
-
-    nth : value (drop (n - i) (take n s) ++ s) (n - 1) ≡ value s (n - (i + 1))
-    nth =
-        ap (value (drop (n - i) (take n s) ++ s)) (let e : n - 1 ≡ length (drop (n - i) (take n s)) + (n - (i + 1)) = omega (arith, part) in e)
-        ∙ get_or-append-add (drop (n - i) (take n s)) s (n - (i + 1)) (pos 0)
-
-    next : drop (n - (i + 1)) (take n s) ≡ value s (n - (i + 1)) ∷ drop (n - i) (take n s)
-    next =
-        let l : n - (i + 1) < length (take n s) = omega (arith, taken) in
-        let m : n - (i + 1) < n = omega arith in
-        drop-cons (take n s) (n - (i + 1)) (pos 0) l
-        ∙ (λ j. get_or-take n s (n - (i + 1)) (pos 0) m j ∷ drop ((let e : suc (n - (i + 1)) ≡ n - i = omega arith in e) j) (take n s))
-
-    pub copy-turn : {t u : List ℤ} → t ≡ drop (n - i) (take n s) ++ s → u ≡ pushed (value t (n - 1)) t → u ≡ drop (n - (i + 1)) (take n s) ++ s
-    unfolding pushed
-    copy-turn {t} {u} et eu =
-        let k : length (drop (n - i) (take n s) ++ s) < 100 = rw length-append (omega (arith, part)) in
-        eu ∙ (ap (λ (l : List ℤ). cond (ltb (length l) 100) (value l (n - 1) ∷ l) l) et
-        ∙ (simp (lt-ltb (length (drop (n - i) (take n s) ++ s)) 100 k) (ap (λ (z : ℤ). z ∷ (drop (n - i) (take n s) ++ s)) nth ∙ ap (λ (l : List ℤ). l ++ s) (sym next))))
-
-  pub copy-end : length s + n ≤ 100 → (i : ℕ) → n ≤ i → drop (n - i) (take n s) ++ s ≡ copied n s
-  unfolding copied
-  copy-end room i le = simp (le-leb n (length s) hn, le-leb (length s + n) 100 room) (ap (λ (m : ℕ). drop m (take n s) ++ s) (let e : n - i ≡ 0 = omega arith in e))
+    x : List ℤ
+    x = take (h - (h - n)) (drop (h - n) a)
 
 pub copy-low : (n : ℕ) (s : List ℤ) → length s < n → s ≡ copied n s
 unfolding copied
@@ -236,15 +220,6 @@ copy-low n s lt = simp (lt-leb n (length s) lt)
 pub copy-full : (n : ℕ) (s : List ℤ) → n ≤ length s → 100 < length s + n → s ≡ copied n s
 unfolding copied
 copy-full n s le lt = simp (le-leb n (length s) le, lt-leb (length s + n) 100 lt)
-
--- ---- the first values, copied
-
-pub window-turn : (w a : List ℤ) (i : ℕ) (x : ℤ) → i < length w → x ≡ get_or a i (pos 0) → ((k : ℕ) → k < i → get_or w k (pos 0) ≡ get_or a k (pos 0)) → (k : ℕ) → k < i + 1 → get_or (set w i x) k (pos 0) ≡ get_or a k (pos 0)
-window-turn w a i x l e f k lt = by (eqb k i) refl
-  where
-    by : (u : Bool) → eqb k i ≡ u → get_or (set w i x) k (pos 0) ≡ get_or a k (pos 0)
-    by true q = let p : k ≡ i = eqb-true k i q in ap (λ (j : ℕ). get_or (set w i x) j (pos 0)) p ∙ (get_or-set_same w i x (pos 0) l ∙ (e ∙ ap (λ (j : ℕ). get_or a j (pos 0)) (sym p)))
-    by false q = let ne : k ≡ i → ⊥ = eqb-false k i q in get_or-set_other w i k x (pos 0) ne ∙ f k (omega (arith, ne))
 
 -- the top two exchanged, by taking them off and putting them back the other way round
 pub exchange-is : (a : List ℤ) (h : ℕ) → 2 ≤ h → h ≤ 100

@@ -5,3 +5,4 @@ pub mod Meaning
 pub mod Judging
 pub mod Flat
 pub mod Memory
+pub mod Meant

@@ -1,13 +1,12 @@
 // Sums, differences and products of millionths, each to the nearest that fits 32 bits.
-//
-// They are over numbers raised by 2^31, which are never negative.
+// A product is taken over numbers raised so that none is negative.
 ghost use Rattle.std.specs.Prelude.{◌≡◌, ◌≤◌, neg_ℤ, nat_abs};
 ghost use Rattle.std.proofs.Math.IntN.{sub_ℕ};
 ghost use Rattle.fixed.specs.Numbers.{half_up};
 ghost use Rattle.stack.specs.Programs.{add, sub, mul, abs};
 ghost use Rattle.stack.specs.Operators.{fitted, signed_by, sum_of, one_of};
 
-use fixed::{lowered, raised};
+use fixed::lowered;
 
 // The nearest to q - k that fits 32 bits.
 fn fit(q: u64, k: u64) -> i32
@@ -28,26 +27,21 @@ fn fit(q: u64, k: u64) -> i32
 pub fn add(x: i32, y: i32) -> i32
     ensures { result ≡ sum_of add x y }
 {
-    let a = raised(x);
-    let b = raised(y);
-    fit(a + b, 4294967296)
+    x.saturating_add(y)
 }
 
 // x - y.
 pub fn sub(x: i32, y: i32) -> i32
     ensures { result ≡ sum_of sub x y }
 {
-    let a = raised(x);
-    let b = raised(y);
-    fit(a + 4294967296 - b, 4294967296)
+    x.saturating_sub(y)
 }
 
 // -x.
 pub fn negative(x: i32) -> i32
     ensures { result ≡ fitted (neg_ℤ x) }
 {
-    let a = raised(x);
-    fit(4294967296 - a, 2147483648)
+    x.saturating_neg()
 }
 
 // How far x is from 0.
@@ -55,11 +49,7 @@ pub fn size_of(x: i32) -> u64
     ensures is { result ≡ nat_abs x }
     ensures small { result ≤ 2147483648 }
 {
-    let a = raised(x);
-    if a < 2147483648 {
-        return 2147483648 - a;
-    }
-    a - 2147483648
+    u64::from(x.unsigned_abs())
 }
 
 // p millionths of millionths, or -p, rounded half up: raised by 4611686018428 millions, none is negative.
@@ -79,17 +69,7 @@ pub fn mul(x: i32, y: i32) -> i32
 {
     let m = size_of(x);
     let n = size_of(y);
-    let p = m * n;
-    if x < 0 {
-        if y < 0 {
-            return product(p, false);
-        }
-        return product(p, true);
-    }
-    if y < 0 {
-        return product(p, true);
-    }
-    product(p, false)
+    product(m * n, (x < 0) != (y < 0))
 }
 
 // How far x is from 0: 2147483647 for the least.

@@ -1,10 +1,67 @@
-// What an operator makes of its operands, or of their kinds, by its word.
-ghost use Rattle.std.specs.Prelude.{◌≡◌, eqb};
-ghost use Rattle.stack.specs.Flat.{sum_by, test_by, join_by, two_by, one_by};
+// The operators of a program, and what each makes of its operands, or of their kinds.
+ghost use Rattle.std.specs.Prelude.{◌≡◌};
 ghost use Rattle.stack.specs.Stack.{truth};
-ghost use Rattle.stack.specs.Operators.{sum_of, test_of, join_of, one_of, takes, gives, one_kind, number_in, truth_in, two_in, one_in};
+ghost use Rattle.stack.specs.Operators.{sum_of, test_of, join_of, two_of, one_of, takes, gives, one_kind, number_in, truth_in, two_in, one_in};
+ghost use Rattle.stack.specs.Meant.{sum_meant, test_meant, join_meant, two_meant, one_meant};
 
 use crate::numbers::{absolute, add, mul, negative, sub};
+
+// Of two numbers, a number.
+#[derive(Clone, Copy, Debug, Drop, Eq, PartialEq)]
+pub enum Sum {
+    Add,
+    Sub,
+    Mul,
+}
+
+// Of two numbers, a truth value.
+#[derive(Clone, Copy, Debug, Drop, Eq, PartialEq)]
+pub enum Test {
+    Eq,
+    Ne,
+    Gt,
+    Ge,
+    Lt,
+    Le,
+}
+
+// Of two truth values, a truth value.
+#[derive(Clone, Copy, Debug, Drop, Eq, PartialEq)]
+pub enum Join {
+    And,
+    Or,
+}
+
+// An operator of two operands.
+#[derive(Clone, Copy, Debug, Drop, Eq, PartialEq)]
+pub enum Two {
+    Sum(Sum),
+    Test(Test),
+    Join(Join),
+}
+
+// An operator of one operand.
+#[derive(Clone, Copy, Debug, Drop, Eq, PartialEq)]
+pub enum One {
+    Neg,
+    Abs,
+    Not,
+}
+
+// An operator, a number, true or false; copy, index and roll with their counts.
+#[derive(Clone, Copy, Debug, Drop, Eq, PartialEq)]
+pub enum Op {
+    Number(i32),
+    Copy(i32),
+    Index(i32),
+    Roll(i32, i32),
+    Two(Two),
+    One(One),
+    Constant(bool),
+    Pop,
+    Exch,
+    Dup,
+}
 
 // A truth value as it stands on the stack.
 pub fn truth(b: bool) -> i32
@@ -13,111 +70,123 @@ pub fn truth(b: bool) -> i32
     if b { 1 } else { 0 }
 }
 
-// add, sub or mul.
-fn sum_of(w: usize, x: i32, y: i32) -> i32
-    ensures { result ≡ sum_of (sum_by w) x y }
-{
-    match w {
-        7 => add(x, y),
-        8 => sub(x, y),
-        _ => mul(x, y),
+impl Sum {
+    fn of(self, x: i32, y: i32) -> i32
+        ensures { result ≡ sum_of (sum_meant self) x y }
+    {
+        match self {
+            Sum::Add => add(x, y),
+            Sum::Sub => sub(x, y),
+            Sum::Mul => mul(x, y),
+        }
     }
 }
 
-// eq, ne, gt, ge, lt or le.
-fn test_of(w: usize, x: i32, y: i32) -> bool
-    ensures { result ≡ test_of (test_by w) x y }
-{
-    match w {
-        10 => (x <= y) & (y <= x),
-        11 => !((x <= y) & (y <= x)),
-        12 => y < x,
-        13 => y <= x,
-        14 => x < y,
-        _ => x <= y,
+impl Test {
+    fn of(self, x: i32, y: i32) -> bool
+        ensures { result ≡ test_of (test_meant self) x y }
+    {
+        match self {
+            Test::Eq => x == y,
+            Test::Ne => x != y,
+            Test::Gt => x > y,
+            Test::Ge => x >= y,
+            Test::Lt => x < y,
+            Test::Le => x <= y,
+        }
     }
 }
 
-// and, or.
-fn join_of(w: usize, x: i32, y: i32) -> bool
-    ensures { result ≡ join_of (join_by w) x y }
-{
-    match w {
-        16 => (0 < x) & (0 < y),
-        _ => (0 < x) | (0 < y),
+impl Join {
+    fn of(self, x: i32, y: i32) -> bool
+        ensures { result ≡ join_of (join_meant self) x y }
+    {
+        match self {
+            Join::And => x > 0 && y > 0,
+            Join::Or => x > 0 || y > 0,
+        }
     }
 }
 
-// The kind of what a word's operator of two operands gives.
-fn gives(w: usize) -> i32
-    ensures { result ≡ gives (two_by w) }
-{
-    if w < 10 { 0 } else { 1 }
-}
-
-// The kind that it takes.
-pub fn takes(w: usize) -> i32
-    ensures { result ≡ takes (two_by w) }
-{
-    if w < 16 { 0 } else { 1 }
-}
-
-// The kind that a word's operator of one operand takes and gives.
-pub fn one_kind(w: usize) -> i32
-    ensures { result ≡ one_kind (one_by w) }
-{
-    match w {
-        18 => 0,
-        19 => 0,
-        _ => 1,
+impl Two {
+    // The kind of what it gives.
+    fn gives(self) -> i32
+        ensures { result ≡ gives (two_meant self) }
+    {
+        match self {
+            Two::Sum(_) => 0,
+            Two::Test(_) | Two::Join(_) => 1,
+        }
     }
-}
 
-// What a word's operator makes of two values, or of two kinds.
-pub fn two_of(w: usize, x: i32, y: i32, kinds: bool) -> i32
-    ensures { result ≡ two_in kinds (two_by w) x y }
-{
-    if kinds {
-        return gives(w);
+    // The kind that it takes.
+    pub fn takes(self) -> i32
+        ensures { result ≡ takes (two_meant self) }
+    {
+        match self {
+            Two::Sum(_) | Two::Test(_) => 0,
+            Two::Join(_) => 1,
+        }
     }
-    if w < 10 {
-        return sum_of(w, x, y);
-    }
-    if w < 16 {
-        return truth(test_of(w, x, y));
-    }
-    truth(join_of(w, x, y))
-}
 
-// neg, abs or not.
-fn one_value(w: usize, x: i32) -> i32
-    ensures { result ≡ one_of (one_by w) x }
-{
-    match w {
-        18 => negative(x),
-        19 => absolute(x),
-        _ => truth(!(0 < x)),
+    #[tactic(auto, unfolding(crate::specs::Operators::two_of))]
+    fn value_of(self, x: i32, y: i32) -> i32
+        ensures { result ≡ two_of (two_meant self) x y }
+    {
+        match self {
+            Two::Sum(sum) => sum.of(x, y),
+            Two::Test(test) => truth(test.of(x, y)),
+            Two::Join(join) => truth(join.of(x, y)),
+        }
+    }
+
+    // What it makes of two values, or of two kinds.
+    pub fn of(self, x: i32, y: i32, kinds: bool) -> i32
+        ensures { result ≡ two_in kinds (two_meant self) x y }
+    {
+        if kinds {
+            self.gives()
+        } else {
+            self.value_of(x, y)
+        }
     }
 }
 
-// What a word's operator makes of one value, or of its kind.
-pub fn one_of(w: usize, x: i32, kinds: bool) -> i32
-    ensures { result ≡ one_in kinds (one_by w) x }
-{
-    if kinds {
-        return one_kind(w);
+impl One {
+    // The kind that it takes and gives.
+    pub fn kind(self) -> i32
+        ensures { result ≡ one_kind (one_meant self) }
+    {
+        match self {
+            One::Neg | One::Abs => 0,
+            One::Not => 1,
+        }
     }
-    one_value(w, x)
+
+    #[tactic(auto, unfolding(crate::specs::Operators::one_of))]
+    fn value_of(self, x: i32) -> i32
+        ensures { result ≡ one_of (one_meant self) x }
+    {
+        match self {
+            One::Neg => negative(x),
+            One::Abs => absolute(x),
+            One::Not => truth(x <= 0),
+        }
+    }
+
+    // What it makes of one value, or of its kind.
+    pub fn of(self, x: i32, kinds: bool) -> i32
+        ensures { result ≡ one_in kinds (one_meant self) x }
+    {
+        if kinds { self.kind() } else { self.value_of(x) }
+    }
 }
 
 // true or false, or its kind.
-pub fn constant_of(w: usize, kinds: bool) -> i32
-    ensures { result ≡ truth_in kinds (eqb w 21) }
+pub fn constant_of(b: bool, kinds: bool) -> i32
+    ensures { result ≡ truth_in kinds b }
 {
-    if kinds {
-        return 1;
-    }
-    truth(w == 21)
+    if kinds { 1 } else { truth(b) }
 }
 
 // A number, or its kind.

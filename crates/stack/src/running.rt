@@ -1,73 +1,43 @@
 // Running a flat form on a stack.
-ghost use Rattle.std.specs.Prelude.{◌≡◌, ◌≤◌, length};
-ghost use Rattle.stack.specs.Stack.{most};
+ghost use Rattle.std.specs.Prelude.{◌≡◌};
 ghost use Rattle.stack.specs.Meaning.{holds};
-ghost use Rattle.stack.specs.Flat.{item_by, item_of, runs, after_item};
-ghost use Rattle.stack.specs.Memory.{stack_of};
+ghost use Rattle.stack.specs.Flat.{runs, after_item};
+ghost use Rattle.stack.specs.Meant.{item_meant};
 
-use crate::acting::act;
-use crate::items::{code, moves};
-use crate::values::{less, value_at};
+use crate::Stack;
+use crate::items::Item;
 
-// Is the top true?
-fn top_holds(a: &[i32], h: usize) -> bool
-    requires { h ≤ length a.now }
-    ensures { result ≡ holds (stack_of a.now h) }
-{
-    0 < value_at(a, h, 0)
-}
-
-// The stack after an item.
-fn stepped(w: usize, x: i32, y: i32, a: &mut [i32], h: usize) -> usize
-    requires { (h ≤ most) × (most ≤ length a.old) }
-    ensures is { stack_of a.new result ≡ after_item (item_by w x y) (stack_of a.old h) }
-    ensures high { result ≤ most }
-{
-    if w == 0 {
-        return h;
+impl Stack {
+    // Is the top true?
+    fn top_holds(&self) -> bool
+        ensures { result ≡ holds self.now }
+    {
+        self.value_at(0) > 0
     }
-    if w == 5 {
-        return less(h, 1);
-    }
-    if w == 6 {
-        return h;
-    }
-    act(w, x, y, a, h, false)
-}
 
-// The stack after the first item.
-fn step(rest: &[i32], a: &mut [i32], h: usize) -> usize
-    requires { (h ≤ most) × (most ≤ length a.old) }
-    ensures is { stack_of a.new result ≡ after_item (item_of rest.now) (stack_of a.old h) }
-    ensures high { result ≤ most }
-{
-    let w = code(rest);
-    let x = fixed::value_at(rest, 1);
-    let y = fixed::value_at(rest, 2);
-    stepped(w, x, y, a, h)
-}
-
-// What the words leave of a stack: the new height.
-pub fn run(words: &[i32], a: &mut [i32], h0: usize) -> usize
-    requires { (h0 ≤ most) × (most ≤ length a.old) }
-    ensures is { stack_of a.new result ≡ runs words.now (stack_of a.old h0) }
-    ensures high { result ≤ most }
-{
-    let mut h = h0;
-    let mut at: usize = 0;
-    while at < words.len() {
-        let rest = &words[at..];
-        let t = top_holds(a, h);
-        let m = moves(rest, t);
-        if m == 0 {
-            return h;
+    // The stack after an item.
+    fn step(&mut self, item: Item)
+        ensures { self.new ≡ after_item (item_meant item) self.old }
+    {
+        match item {
+            Item::Op(op) => self.act(op, false),
+            Item::Unless(_) => self.discard(1),
+            Item::Jump(_) => {}
         }
-        let g = step(rest, a, h);
-        h = g;
-        if words.len() - at < m {
-            return h;
-        }
-        at += m;
     }
-    h
+
+    // What the words leave of the stack.
+    pub fn run(&mut self, words: &[i32])
+        ensures { self.new ≡ runs words.now self.old }
+    {
+        let mut at: usize = 0;
+        'items: while let Some(item) = Item::read(&words[at..]) {
+            let moves = item.moves(self.top_holds());
+            self.step(item);
+            if words.len() - at < moves {
+                return;
+            }
+            at += moves;
+        }
+    }
 }

@@ -1,82 +1,132 @@
-// The stack in an array, the deepest first, up to a height.
-ghost use Rattle.std.specs.Prelude.{◌≡◌, ◌≤◌, ◌-◌, length};
+// The operand stack: an array, the deepest value first, and how many of it are on the stack. Clauses see the values, the top first.
+ghost use Rattle.std.specs.Prelude.{◌≡◌, ◌≤◌, [], drop, length};
 ghost use Rattle.fixed.specs.Values.{value};
-ghost use Rattle.stack.specs.Stack.{most, pushed, copied, rolled};
+ghost use Rattle.stack.specs.Stack.{most, pushed, copied, rolled, turns};
 ghost use Rattle.stack.specs.Memory.{stack_of};
 
 use crate::MOST;
+use std::marker::Model;
 
-// The value n below the top, 0 where there is none.
-pub fn value_at(a: &[i32], h: usize, n: usize) -> i32
-    requires { h ≤ length a.now }
-    ensures { result ≡ value (stack_of a.now h) n }
-{
-    if n < h { a[h - 1 - n] } else { 0 }
+#[derive(Drop)]
+pub struct Stack {
+    items: [i32; MOST],
+    height: usize,
 }
 
-// The height less n, 0 at least.
-pub fn less(h: usize, n: usize) -> usize
-    ensures { result ≡ h - n }
-{
-    if n < h { h - n } else { 0 }
+impl Model for Stack {
+    ghost use Rattle.std.specs.Prelude.{List, ℤ, ◌≤◌};
+    ghost use Rattle.stack.specs.Stack.{most};
+    ghost use Rattle.stack.specs.Memory.{stack_of};
+
+    ghost Value = { List ℤ };
+
+    ghost view = { λ s. stack_of s.items s.height };
+
+    ghost invariant = { λ s. s.height ≤ most };
 }
 
-// x on top; nothing where the stack is full.
-pub fn push(a: &mut [i32], h: usize, x: i32) -> usize
-    requires { (h ≤ most) × (most ≤ length a.old) }
-    ensures is { stack_of a.new result ≡ pushed x (stack_of a.old h) }
-    ensures high { result ≤ most }
-{
-    if h < MOST {
-        a[h] = x;
-        return h + 1;
+impl Stack {
+    // An empty stack.
+    #[tactic(auto, unfolding(crate::specs::Memory::stack_of))]
+    pub fn new() -> Stack
+        ensures { result ≡ [] }
+    {
+        Stack {
+            items: [0; MOST],
+            height: 0,
+        }
     }
-    h
-}
 
-// The value n below the top, on top.
-pub fn index(a: &mut [i32], h: usize, n: usize) -> usize
-    requires { (h ≤ most) × (most ≤ length a.old) }
-    ensures is { stack_of a.new result ≡ pushed (value (stack_of a.old h) n) (stack_of a.old h) }
-    ensures high { result ≤ most }
-{
-    let x = value_at(a, h, n);
-    push(a, h, x)
-}
+    // Takes all values off.
+    #[tactic(auto, unfolding(crate::specs::Memory::stack_of))]
+    pub fn clear(&mut self)
+        ensures { self.new ≡ [] }
+    {
+        self.height = 0;
+    }
 
-// The top two, one in the place of the other.
-pub fn exchange(a: &mut [i32], h: usize) -> usize
-    requires { (h ≤ most) × (most ≤ length a.old) }
-    ensures is { stack_of a.new result ≡ rolled 2 1 (stack_of a.old h) }
-    ensures high { result ≤ most }
-{
-    if h < 2 {
-        return h;
+    // The values, the deepest first.
+    pub fn values(&self) -> &[i32]
+        ensures is { stack_of result.now (length result.now) ≡ self.now }
+        ensures most { length result.now ≤ most }
+    {
+        &self.items[..self.height]
     }
-    let x = value_at(a, h, 0);
-    let y = value_at(a, h, 1);
-    let g = push(a, h - 2, x);
-    push(a, g, y)
-}
 
-// The top n once more: n times the value n - 1 below the top.
-pub fn copy(a: &mut [i32], h: usize, n: usize) -> usize
-    requires { (h ≤ most) × (most ≤ length a.old) }
-    ensures is { stack_of a.new result ≡ copied n (stack_of a.old h) }
-    ensures high { result ≤ most }
-{
-    if h < n {
-        return h;
+    // How many values it has.
+    pub fn height(&self) -> usize
+        ensures is { result ≡ length self.now }
+        ensures most { result ≤ most }
+    {
+        self.height
     }
-    if MOST - h < n {
-        return h;
+
+    // The value n below the top, 0 where there is none.
+    // Kept: 0 is no sign that there is none, but what the definition `value` has below the stack.
+    pub fn value_at(&self, n: usize) -> i32
+        ensures { result ≡ value self.now n }
+    {
+        if n < self.height {
+            self.items[self.height - 1 - n]
+        } else {
+            0
+        }
     }
-    let mut g = h;
-    let mut i: usize = 0;
-    while i < n {
-        let f = index(a, g, n - 1);
-        g = f;
-        i += 1;
+
+    // x on top; nothing where the stack is full.
+    pub fn push(&mut self, x: i32)
+        ensures { self.new ≡ pushed x self.old }
+    {
+        if self.height < MOST {
+            self.items[self.height] = x;
+            self.height += 1;
+        }
     }
-    g
+
+    // The top n, or all where there are fewer, are taken off.
+    pub fn discard(&mut self, n: usize)
+        ensures { self.new ≡ drop n self.old }
+    {
+        self.height = self.height.saturating_sub(n);
+    }
+
+    // The value n below the top, on top.
+    pub fn index(&mut self, n: usize)
+        ensures { self.new ≡ pushed (value self.old n) self.old }
+    {
+        let x = self.value_at(n);
+        self.push(x);
+    }
+
+    // The top two, one in the place of the other.
+    pub fn exchange(&mut self)
+        ensures { self.new ≡ rolled 2 1 self.old }
+    {
+        if 2 <= self.height {
+            self.items.swap(self.height - 1, self.height - 2);
+        }
+    }
+
+    // The top n once more.
+    pub fn copy(&mut self, n: usize)
+        ensures { self.new ≡ copied n self.old }
+    {
+        if n <= self.height && n <= MOST - self.height {
+            let from = self.height - n;
+            self.items.copy_within(from..self.height, self.height);
+            self.height += n;
+        }
+    }
+
+    // The top n, turned by j.
+    pub fn roll(&mut self, n: usize, j: i32)
+        ensures { self.new ≡ rolled n (turns j n) self.old }
+    {
+        if 0 < n && n <= self.height {
+            let k = j.rem_euclid(n as i32) as usize;
+            let from = self.height - n;
+            let top = &mut self.items[from..self.height];
+            top.rotate_right(k);
+        }
+    }
 }

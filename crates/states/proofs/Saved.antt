@@ -2,11 +2,11 @@
 use mathlib.Core.Path.{◌≡◌, refl, ap, ◌∙◌}
 use mathlib.Core.Bool.{Bool, true, false}
 use mathlib.Core.List.{List, [], ◌∷◌, ◌++◌}
-use Prim.Native.Nat.{ℕ, ◌+◌, ◌%◌, ◌≤◌, ◌<◌}
+use Prim.Native.Nat.{ℕ, ◌%◌, ◌≤◌, ◌<◌}
 use native.Mathlib.Omega.{arith}
 use native.Mathlib.Nat.{mod-eq_of_lt}
 use lib.Dec.{eqb}
-use lib.ListN.{length, get_or, set, take, drop}
+use lib.ListN.{length, drop}
 use lib.Seq.{sets}
 use Rattle.fixed.proofs.Stores.{sets-append, sets-front}
 use Rattle.lexical.specs.declared.types.Part.{Part}
@@ -15,7 +15,6 @@ use Rattle.lexer.specs.declared.types.Mode.{Mode}
 use Rattle.lexer.specs.declared.types.Mode.TheVariants.{Gap, Comment, Regular, Name, Hash, HashDigit, Less, Greater, Hex, HexDigit, Text, Return, Escape, Octal, Octals}
 use Rattle.reader.specs.declared.types.Want.{Want}
 use Rattle.reader.specs.declared.types.Want.TheVariants.{Top, Family, Dict, Key, Value, Items, Shut, Space, Hival, Lookup, Ink}
-use Rattle.reader.proofs.Rings.{name-turn}
 use Rattle.states.specs.declared.types.State.{State}
 use Rattle.states.specs.Words.{pack, packed, unpacked, part_in, part_tag, want_in, want_tag, bit, lexer_in, head_in, state_in, lexer_words, head_words, LexerFits, HeadFits}
 
@@ -117,7 +116,3 @@ saved s w {a} {b} {x} {y} {z} n ea eb ex ey ez f g r p =
     let stored : y ≡ sets w 0 (l ++ h) = ey ∙ (λ i. sets (ex i) 11 (eb i)) ∙ (λ i. sets (sets w 0 (ea i)) 11 h) ∙ sets-append l w 0 h in
     let all : z ≡ words_of s (drop 25 w) = ez ∙ ap (λ (t : List ℕ). sets t 23 k) stored ∙ sets-append (l ++ h) w 0 k ∙ sets-front ((l ++ h) ++ k) w o in
     ap state_in all ∙ state-back s (drop 25 w) f g r p
-
--- words stored one by one
-pub words-turn : (d from : List ℕ) (at i : ℕ) {y : List ℕ} → i < length from → y ≡ sets d at (take i from) → set y (at + i) (get_or from i 0) ≡ sets d at (take (i + 1) from)
-words-turn d from at i h e = name-turn d at from i h e

@@ -1,7 +1,7 @@
 // The state as words that the caller lends: any words are a state, and what was saved is loaded again.
 ghost use Rattle.std.specs.Prelude.{◌≡◌, ◌+◌, ◌%◌, ◌≤◌, eqb, length, get_or};
 ghost use Rattle.std.proofs.lemmas.List.Edits.{sets};
-ghost use Rattle.states.specs.Words.{pack, packed, unpacked, part_in, part_tag, want_in, want_tag, bit, half, short, byte as low, flag as odd, number_in, lexer_in, head_in, state_in, lexer_words, head_words, LexerFits, HeadFits};
+ghost use Rattle.states.specs.Words.{part_in, part_tag, want_in, want_tag, half, short, byte as low, flag as odd, number_in, lexer_in, head_in, state_in, lexer_words, head_words, LexerFits, HeadFits};
 
 use crate::types::{Packed, State};
 use lexer::{Lexer, Mode};
@@ -11,61 +11,8 @@ use reader::{Entry, Head, Inner, Want};
 // How many words are lent.
 pub const WORDS: usize = 25;
 
-fn pack_as(t: u32, d: u32, s: u8) -> Packed
-    ensures { result ≡ pack t d s }
-{
-    Packed {
-        tag: t,
-        depth: d,
-        small: s,
-    }
-}
-
-fn pack_mode(m: Mode) -> Packed
-    ensures { result ≡ packed m }
-{
-    match m {
-        Mode::Gap => pack_as(0, 0, 0),
-        Mode::Comment => pack_as(1, 0, 0),
-        Mode::Regular => pack_as(2, 0, 0),
-        Mode::Name => pack_as(3, 0, 0),
-        Mode::Hash => pack_as(4, 0, 0),
-        Mode::HashDigit(s) => pack_as(5, 0, s),
-        Mode::Less => pack_as(6, 0, 0),
-        Mode::Greater => pack_as(7, 0, 0),
-        Mode::Hex => pack_as(8, 0, 0),
-        Mode::HexDigit(s) => pack_as(9, 0, s),
-        Mode::Text(d) => pack_as(10, d, 0),
-        Mode::Return(d) => pack_as(11, d, 0),
-        Mode::Escape(d) => pack_as(12, d, 0),
-        Mode::Octal(d, s) => pack_as(13, d, s),
-        Mode::Octals(d, s) => pack_as(14, d, s),
-    }
-}
-
-fn unpack_mode(p: Packed) -> Mode
-    ensures { result ≡ unpacked p }
-{
-    let t = p.tag;
-    match t {
-        1 => Mode::Comment,
-        2 => Mode::Regular,
-        3 => Mode::Name,
-        4 => Mode::Hash,
-        5 => Mode::HashDigit(p.small),
-        6 => Mode::Less,
-        7 => Mode::Greater,
-        8 => Mode::Hex,
-        9 => Mode::HexDigit(p.small),
-        10 => Mode::Text(p.depth),
-        11 => Mode::Return(p.depth),
-        12 => Mode::Escape(p.depth),
-        13 => Mode::Octal(p.depth, p.small),
-        14 => Mode::Octals(p.depth, p.small),
-        _ => Mode::Gap,
-    }
-}
-
+// Any number past the last is the first.
+#[tactic(auto, unfolding(crate::specs::Words::part_in))]
 fn part_in(t: u32) -> Part
     ensures { result ≡ part_in t }
 {
@@ -82,16 +29,10 @@ fn part_in(t: u32) -> Part
 fn part_tag(p: Part) -> u64
     ensures { result ≡ part_tag p }
 {
-    match p {
-        Part::Empty => 0,
-        Part::Sign => 1,
-        Part::Digits => 2,
-        Part::Point => 3,
-        Part::Decimals => 4,
-        Part::Keyword => 5,
-    }
+    p as u64
 }
 
+#[tactic(auto, unfolding(crate::specs::Words::want_in))]
 fn want_in(t: u32) -> Want
     ensures { result ≡ want_in t }
 {
@@ -113,28 +54,13 @@ fn want_in(t: u32) -> Want
 fn want_tag(w: Want) -> u64
     ensures { result ≡ want_tag w }
 {
-    match w {
-        Want::Top => 0,
-        Want::Family => 1,
-        Want::Dict => 2,
-        Want::Key => 3,
-        Want::Value => 4,
-        Want::Items => 5,
-        Want::Shut => 6,
-        Want::Space => 7,
-        Want::Hival => 8,
-        Want::Lookup => 9,
-        Want::Ink => 10,
-    }
+    w as u64
 }
 
 fn word_at(w: &[u64], i: usize) -> u64
     ensures { result ≡ get_or w.now i 0 }
 {
-    if i < w.len() {
-        return w[i];
-    }
-    0
+    w.get(i).copied().unwrap_or(0)
 }
 
 fn half_at(w: &[u64], i: usize) -> u32
@@ -164,9 +90,8 @@ fn flag_at(w: &[u64], i: usize) -> bool
 fn number_in(w: &[u64]) -> Number
     ensures { result ≡ number_in w.now }
 {
-    let p = part_in(half_at(w, 3));
     Number {
-        part: p,
+        part: part_in(half_at(w, 3)),
         minus: flag_at(w, 4),
         fine: flag_at(w, 5),
         raw: word_at(w, 6),
@@ -177,11 +102,9 @@ fn number_in(w: &[u64]) -> Number
 fn lexer_in(w: &[u64]) -> Lexer
     ensures { result ≡ lexer_in w.now }
 {
-    let m = unpack_mode(pack_as(half_at(w, 0), half_at(w, 1), byte_at(w, 2)));
-    let n = number_in(w);
     Lexer {
-        mode: m,
-        number: n,
+        mode: Mode::from(Packed::new(half_at(w, 0), half_at(w, 1), byte_at(w, 2))),
+        number: number_in(w),
         size: half_at(w, 8),
         seen: half_at(w, 9),
         first: half_at(w, 10),
@@ -212,14 +135,11 @@ fn inner_in(w: &[u64]) -> Inner
 fn head_in(w: &[u64]) -> Head
     ensures { result ≡ head_in w.now }
 {
-    let t = want_in(half_at(w, 11));
-    let e = entry_in(w);
-    let i = inner_in(w);
     Head {
-        want: t,
+        want: want_in(half_at(w, 11)),
         kind: byte_at(w, 12),
-        entry: e,
-        inner: i,
+        entry: entry_in(w),
+        inner: inner_in(w),
         next: byte_at(w, 20),
         top: byte_at(w, 21),
         deep: byte_at(w, 22),
@@ -227,26 +147,16 @@ fn head_in(w: &[u64]) -> Head
 }
 
 // The state that any words are.
+#[tactic(auto, unfolding(crate::specs::Words::state_in))]
 pub fn load(w: &[u64]) -> State
     ensures { result ≡ state_in w.now }
 {
-    let l = lexer_in(w);
-    let h = head_in(w);
     State {
-        lexer: l,
-        head: h,
+        lexer: lexer_in(w),
+        head: head_in(w),
         refusal: half_at(w, 23),
         place: half_at(w, 24),
     }
-}
-
-fn bit_of(b: bool) -> u64
-    ensures { result ≡ bit b }
-{
-    if b {
-        return 1;
-    }
-    0
 }
 
 // The first 11 words: where the lexer stands.
@@ -254,22 +164,20 @@ fn lexer_words(l: Lexer) -> [u64; 11]
     ensures is { result ≡ lexer_words l }
     ensures fit { LexerFits l }
 {
-    let m = l.mode;
-    let p = pack_mode(m);
+    let p = Packed::from(l.mode);
     let n = l.number;
-    let k = n.part;
     [
-        p.tag as u64,
-        p.depth as u64,
-        p.small as u64,
-        part_tag(k),
-        bit_of(n.minus),
-        bit_of(n.fine),
+        u64::from(p.tag),
+        u64::from(p.depth),
+        u64::from(p.small),
+        part_tag(n.part),
+        u64::from(n.minus),
+        u64::from(n.fine),
         n.raw,
-        n.after as u64,
-        l.size as u64,
-        l.seen as u64,
-        l.first as u64,
+        u64::from(n.after),
+        u64::from(l.size),
+        u64::from(l.seen),
+        u64::from(l.first),
     ]
 }
 
@@ -278,22 +186,21 @@ fn head_words(h: Head) -> [u64; 12]
     ensures is { result ≡ head_words h }
     ensures fit { HeadFits h }
 {
-    let w = h.want;
     let e = h.entry;
     let i = h.inner;
     [
-        want_tag(w),
-        h.kind as u64,
-        e.key as u64,
-        e.index as u64,
-        e.mask as u64,
-        e.exponent as u64,
-        i.count as u64,
-        i.code as u64,
-        i.hival as u64,
-        h.next as u64,
-        h.top as u64,
-        h.deep as u64,
+        want_tag(h.want),
+        u64::from(h.kind),
+        u64::from(e.key),
+        u64::from(e.index),
+        u64::from(e.mask),
+        u64::from(e.exponent),
+        u64::from(i.count),
+        u64::from(i.code),
+        u64::from(i.hival),
+        u64::from(h.next),
+        u64::from(h.top),
+        u64::from(h.deep),
     ]
 }
 
@@ -302,11 +209,7 @@ fn put_words(w: &mut [u64], at: usize, from: &[u64])
     requires { at + length from.now ≤ length w.old }
     ensures { w.new ≡ sets w.old at from.now }
 {
-    let mut i: usize = 0;
-    while i < from.len() {
-        w[at + i] = from[i];
-        i += 1;
-    }
+    w[at..at + from.len()].copy_from_slice(from);
 }
 
 // Stores a state in the words.
@@ -314,11 +217,9 @@ pub fn save(w: &mut [u64], s: State)
     requires { length w.old ≡ 25 }
     ensures { state_in w.new ≡ s }
 {
-    let l = s.lexer;
-    let h = s.head;
-    let a = lexer_words(l);
-    let b = head_words(h);
-    let c = [s.refusal as u64, s.place as u64];
+    let a = lexer_words(s.lexer);
+    let b = head_words(s.head);
+    let c = [u64::from(s.refusal), u64::from(s.place)];
     put_words(w, 0, &a);
     put_words(w, 11, &b);
     put_words(w, 23, &c);

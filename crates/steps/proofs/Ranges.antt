@@ -1,9 +1,8 @@
--- What the tests of a step's small numbers say: they are in range, and a table has few entries.
-use mathlib.Core.Path.{◌≡◌, sym, ◌∙◌, ap, ap₂}
-use mathlib.Core.Bool.{Bool, true, false, ◌&&◌}
+-- What the tests of a step's small numbers say: they are in range.
+use mathlib.Core.Path.{◌≡◌, sym, ◌∙◌}
+use mathlib.Core.Bool.{Bool, true, ◌&&◌}
 use mathlib.Core.List.{List, [], ◌∷◌}
-use Prim.Native.Nat.{ℕ, ◌+◌, ◌*◌, ◌≤◌}
-use native.Mathlib.Nat.{mul-le-mul}
+use Prim.Native.Nat.{ℕ, ◌≤◌}
 use native.Mathlib.Omega.{arith}
 use lib.IntN.{ℤ}
 use lib.Dec.{leb}
@@ -32,37 +31,6 @@ tint-range x m e =
     let f = and_left (exponent_supported x) (makes m) e in
     let g = and_right (exponent_supported x) (makes m) e in
     (low x greatest f, high x greatest f, low m widest g, high m widest g)
-
--- the entries of a table, of a row step that is in range
-pub few : (m h : ℕ) → m ≤ places → h ≤ 255 → m * (h + 1) ≤ places * 256
-few m h p q =
-    let k : h + 1 ≤ 256 = omega arith in
-    mul-le-mul p k
-
--- both tests of a row step's numbers failed or passed, as the code joins them
-module _ (m h : ℕ) {t : Bool} (e : t ≡ fills m) where
-  joined : (t && leb h 255) ≡ (fills m && leb h 255)
-  joined = ap (λ (b : Bool). b && leb h 255) e
-
-  pub row-no : (t && leb h 255) ≡ false → (fills m && leb h 255) ≡ false
-  row-no f = sym joined ∙ f
-
-  pub row-yes : (t && leb h 255) ≡ true → (fills m && leb h 255) ≡ true
-  row-yes f = sym joined ∙ f
-
-  pub row-few : (t && leb h 255) ≡ true → m * (h + 1) ≤ places * 256
-  row-few f = let r = row-range m h (row-yes f) in few m h r.1 r.2
-
--- and those of a tint step's
-module _ (x m : ℕ) {t u : Bool} (e : t ≡ exponent_supported x) (f : u ≡ makes m) where
-  tint-joined : (t && u) ≡ (exponent_supported x && makes m)
-  tint-joined = ap₂ ◌&&◌ e f
-
-  pub tint-no : (t && u) ≡ false → (exponent_supported x && makes m) ≡ false
-  tint-no g = sym tint-joined ∙ g
-
-  pub tint-yes : (t && u) ≡ true → (exponent_supported x && makes m) ≡ true
-  tint-yes g = sym tint-joined ∙ g
 
 -- a recipe that begins with a count has a word
 pub some_word : (l : List ℤ) {n : ℕ} {t : Bool} → n ≡ small_of (value l 0) → t ≡ fills n → t ≡ true → 1 ≤ length l

@@ -20,8 +20,8 @@ use Rattle.steps.specs.Steps.{limit_read, row_read, tint_read, program_read, clo
 use Rattle.steps.specs.Ranges.{Bounded, Carried}
 use Rattle.steps.specs.declared.Step.{Step}
 use Rattle.steps.specs.declared.Step.TheVariants.{Limit, Row, Tint, Program, Close}
-use Rattle.steps.specs.declared.Read.{Read}
-use Rattle.steps.specs.declared.Read.TheVariants.{At, Nothing}
+use Rattle.steps.specs.Steps.{Read}
+use Rattle.std.specs.Prelude.{Some, None}
 use Rattle.steps.proofs.Ranges.{row-range, tint-range}
 
 -- what a step carries stands in l
@@ -33,20 +33,20 @@ Standing l (Program t m at n) = Unit {0}
 Standing l (Close k) = Carried l k
 
 abbrev pub Sound : List ℤ → Read → Type 0
-Sound l Nothing = Unit {0}
-Sound l (At s n) = (1 ≤ n) × (n ≤ length l) × Bounded s × Standing l s
+Sound l None = Unit {0}
+Sound l (Some (s, n)) = (1 ≤ n) × (n ≤ length l) × Bounded s × Standing l s
 
 -- the same as a record, so that what was read is found
 record Fine (l : List ℤ) (r : Read) : Type 0 where
   sound : Sound l r
 
-nothing : (l : List ℤ) → Fine l Nothing
+nothing : (l : List ℤ) → Fine l None
 nothing l = record { sound = tt }
 
-at : (l : List ℤ) (s : Step) (n : ℕ) → 1 ≤ n → n ≤ length l → Bounded s → Standing l s → Fine l (At s n)
+at : (l : List ℤ) (s : Step) (n : ℕ) → 1 ≤ n → n ≤ length l → Bounded s → Standing l s → Fine l (Some (s, n))
 at l s n h k i j = record { sound = (h, k, i, j) }
 
-unless : (l : List ℤ) (s : Step) (n : ℕ) → 1 ≤ n → Bounded s → Standing l s → Fine l (cond (ltb (length l) n) Nothing (At s n))
+unless : (l : List ℤ) (s : Step) (n : ℕ) → 1 ≤ n → Bounded s → Standing l s → Fine l (cond (ltb (length l) n) None (Some (s, n)))
 unless l s n h i j = cond_ind (Fine l) (ltb (length l) n) (λ _. nothing l) (λ e. at l s n h (ltb-false _ _ e) i j)
 
 limit-sound : (l : List ℤ) → Fine l (limit_read l)

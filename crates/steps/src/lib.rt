@@ -22,10 +22,3 @@ pub enum Step {
     // The closing step.
     Close(Closing),
 }
-
-// What is read off the front of a list of words: a step and how many words it takes, or none.
-#[derive(Clone, Copy, Drop)]
-pub enum Read {
-    At(Step, usize),
-    Nothing,
-}

@@ -14,8 +14,8 @@ ghost use Rattle.steps.specs.Steps.{
   step_of,
 };
 
+use crate::Step;
 use crate::words::{gamma_at, is_below, is_count, is_made};
-use crate::{Read, Step};
 use cie::{Closing, GrayClosing, LabClosing, RgbClosing};
 use fixed::{VALUES, is_exponent, small_at, value_at};
 use form::is_form_at;
@@ -24,60 +24,62 @@ use form::is_form_at;
 const LAST_ROW: u32 = 255;
 
 // 1 k lo hi.
-fn limit_read(l: &[i32]) -> Read
+#[tactic(auto, unfolding(crate::specs::Steps::limit_read))]
+fn limit_read(l: &[i32]) -> Option<(Step, usize)>
     ensures { result ≡ limit_read l.now }
 {
     if l.len() < 4 {
-        return Read::Nothing;
+        return None;
     }
     let k = small_at(l, 1);
-    if VALUES <= (k as usize) {
-        return Read::Nothing;
+    if VALUES <= k as usize {
+        return None;
     }
     let lo = value_at(l, 2);
     let hi = value_at(l, 3);
     if is_below(hi, lo) {
-        return Read::Nothing;
+        return None;
     }
-    Read::At(Step::Limit(k, lo, hi), 4)
+    Some((Step::Limit(k, lo, hi), 4))
 }
 
 // 2 m h, and m (h + 1) entries.
-fn row_read(l: &[i32]) -> Read
+#[tactic(auto, unfolding(crate::specs::Steps::row_read))]
+fn row_read(l: &[i32]) -> Option<(Step, usize)>
     ensures { result ≡ row_read l.now }
 {
     let m = small_at(l, 1);
     let h = small_at(l, 2);
-    let good = is_count(m) & (h <= LAST_ROW);
-    if !good {
-        return Read::Nothing;
+    if !is_count(m) || LAST_ROW < h {
+        return None;
     }
     let n = 3 + (m as usize) * ((h as usize) + 1);
     if l.len() < n {
-        return Read::Nothing;
+        return None;
     }
-    Read::At(Step::Row(m, h), n)
+    Some((Step::Row(m, h), n))
 }
 
 // 3 e m, m C0s, m C1s.
-fn tint_read(l: &[i32]) -> Read
+#[tactic(auto, unfolding(crate::specs::Steps::tint_read))]
+fn tint_read(l: &[i32]) -> Option<(Step, usize)>
     ensures { result ≡ tint_read l.now }
 {
     let e = small_at(l, 1);
     let m = small_at(l, 2);
-    let good = is_exponent(e) & is_made(m);
-    if !good {
-        return Read::Nothing;
+    if !is_exponent(e) || !is_made(m) {
+        return None;
     }
     let n = 3 + 2 * (m as usize);
     if l.len() < n {
-        return Read::Nothing;
+        return None;
     }
-    Read::At(Step::Tint(e, m), n)
+    Some((Step::Tint(e, m), n))
 }
 
 // m n, with m at the place `at`, and n words, the flat form of a program that takes t values and leaves m numbers.
-fn program_read(l: &[i32], t: u32, at: u32) -> Read
+#[tactic(auto, unfolding(crate::specs::Steps::program_read))]
+fn program_read(l: &[i32], t: u32, at: u32) -> Option<(Step, usize)>
     requires { at ≤ 2 }
     ensures { result ≡ program_read t at l.now }
 {
@@ -85,19 +87,20 @@ fn program_read(l: &[i32], t: u32, at: u32) -> Read
     let n = small_at(l, at as usize + 1);
     let from = at + 2;
     if is_form_at(l, from as usize, n as usize, t as usize, m as usize) {
-        return Read::At(Step::Program(t, m, from, n), from as usize + (n as usize));
+        return Some((Step::Program(t, m, from, n), from as usize + n as usize));
     }
-    Read::Nothing
+    None
 }
 
 // A closing step of n words.
-fn close_read(l: &[i32], n: usize, k: Closing) -> Read
+#[tactic(auto, unfolding(crate::specs::Steps::close_read))]
+fn close_read(l: &[i32], n: usize, k: Closing) -> Option<(Step, usize)>
     ensures { result ≡ close_read l.now n k }
 {
     if l.len() < n {
-        return Read::Nothing;
+        return None;
     }
-    Read::At(Step::Close(k), n)
+    Some((Step::Close(k), n))
 }
 
 fn gray_words(l: &[i32]) -> GrayClosing
@@ -111,13 +114,14 @@ fn gray_words(l: &[i32]) -> GrayClosing
 }
 
 // 7 XW ZW gamma.
-fn gray_read(l: &[i32]) -> Read
+#[tactic(auto, unfolding(crate::specs::Steps::gray_read))]
+fn gray_read(l: &[i32]) -> Option<(Step, usize)>
     ensures { result ≡ gray_read l.now }
 {
     if gamma_at(l, 3) {
         return close_read(l, 4, Closing::CalGray(gray_words(l)));
     }
-    Read::Nothing
+    None
 }
 
 // The numbers of step 8.
@@ -141,13 +145,14 @@ pub fn rgb_words(l: &[i32]) -> RgbClosing
 }
 
 // 8, three gammas, nine matrix numbers.
-fn rgb_read(l: &[i32]) -> Read
+#[tactic(auto, unfolding(crate::specs::Steps::rgb_read))]
+fn rgb_read(l: &[i32]) -> Option<(Step, usize)>
     ensures { result ≡ rgb_read l.now }
 {
-    if gamma_at(l, 1) & (gamma_at(l, 2) & gamma_at(l, 3)) {
+    if gamma_at(l, 1) && gamma_at(l, 2) && gamma_at(l, 3) {
         return close_read(l, 13, Closing::CalRgb(rgb_words(l)));
     }
-    Read::Nothing
+    None
 }
 
 fn lab_words(l: &[i32]) -> LabClosing
@@ -160,7 +165,8 @@ fn lab_words(l: &[i32]) -> LabClosing
 }
 
 // The step at the front of the words.
-pub fn step_of(l: &[i32]) -> Read
+#[tactic(auto, unfolding(crate::specs::Steps::step_by))]
+pub fn step_of(l: &[i32]) -> Option<(Step, usize)>
     ensures { result ≡ step_of l.now }
 {
     match small_at(l, 0) {
@@ -177,6 +183,6 @@ pub fn step_of(l: &[i32]) -> Read
         11 => close_read(l, 1, Closing::EveryInk),
         12 => program_read(l, 1, 1),
         13 => program_read(l, small_at(l, 1), 2),
-        _ => Read::Nothing,
+        _ => None,
     }
 }

@@ -24,12 +24,12 @@ pub fn gamma_at(l: &[i32], i: usize) -> bool
 pub fn is_count(m: u32) -> bool
     ensures { result ≡ fills m }
 {
-    (1 <= m) & (m <= (VALUES as u32))
+    1 <= m && m <= VALUES as u32
 }
 
 // Whether a tint may make m components.
 pub fn is_made(m: u32) -> bool
     ensures { result ≡ makes m }
 {
-    (1 <= m) & (m <= (WIDEST as u32))
+    1 <= m && m <= WIDEST as u32
 }

@@ -7,7 +7,7 @@ ghost use Rattle.sums.specs.Columns.{DownAll, Across};
 use octets::{byte_at, two_at};
 
 // The two sums, modulo 65535: `plain` adds the bytes up as they are, `weighed` adds up byte i times 508 - i.
-#[derive(Clone, Copy, Drop)]
+#[derive(Clone, Copy, Debug, PartialEq, Eq)]
 pub struct Sums {
     pub plain: u32,
     pub weighed: u32,
@@ -15,7 +15,7 @@ pub struct Sums {
 
 // The columns of a block, taken as 16 rows of 32 bytes, down to some row. `sums` has the total of each column's bytes. `runnings` has the total of the sums that
 // one has on the way down, so that after all rows the byte in row r is in it 16 - r times.
-#[derive(Drop)]
+#[derive(Clone, Copy)]
 struct Columns {
     sums: [u16; 32],
     runnings: [u16; 32],
@@ -29,13 +29,10 @@ fn add_row(page: &[u8], n: u32, row: usize, c: Columns) -> Columns
     let start = 512 * (n as usize) + 32 * row;
     let mut sums = c.sums;
     let mut runnings = c.runnings;
-    let mut k: usize = 0;
-    while k < 32 {
-        let sum = sums[k] + page[start + k] as u16;
-        let running = runnings[k] + sum;
+    for k in 0..32 {
+        let sum = sums[k] + u16::from(page[start + k]);
+        runnings[k] += sum;
         sums[k] = sum;
-        runnings[k] = running;
-        k += 1;
     }
     Columns { sums, runnings }
 }
@@ -49,17 +46,14 @@ fn sum_rows(page: &[u8], n: u32) -> Columns
         sums: [0; 32],
         runnings: [0; 32],
     };
-    let mut row: usize = 0;
-    while row < 16 {
-        let d = add_row(page, n, row, c);
-        c = d;
-        row += 1;
+    for row in 0..16 {
+        c = add_row(page, n, row, c);
     }
     c
 }
 
 // What the columns come to: their sums, their runnings, and each sum as often as its column's place and 4 more.
-#[derive(Drop)]
+#[derive(Clone, Copy)]
 struct Totals {
     sum: u32,
     running: u32,
@@ -72,17 +66,14 @@ fn sum_columns(page: &[u8], n: u32) -> Totals
     requires { 512 * n + 512 ≤ length page.now }
     ensures { Across (block_at page.now n) result.sum result.running result.over 32 }
 {
-    let c = sum_rows(page, n);
-    let sums = c.sums;
-    let runnings = c.runnings;
+    let Columns { sums, runnings } = sum_rows(page, n);
     let mut sum_high: u16 = 0;
     let mut sum_low: u16 = 0;
     let mut running_high: u16 = 0;
     let mut running_low: u16 = 0;
     let mut place_high: u16 = 0;
     let mut place_low: u16 = 0;
-    let mut k: usize = 0;
-    while k < 32 {
+    for k in 0..32 {
         let place = k as u16;
         let high = sums[k] / 64;
         let low = sums[k] % 64;
@@ -93,7 +84,6 @@ fn sum_columns(page: &[u8], n: u32) -> Totals
         running_low += running % 256;
         place_high += place * high;
         place_low += place * low;
-        k += 1;
     }
     let sum = 64 * (sum_high as u32) + (sum_low as u32);
     Totals {
@@ -122,12 +112,11 @@ pub fn sum_up(page: &[u8], n: u32) -> Sums
 }
 
 // Whether block n holds the check that its bytes ask for.
+#[tactic(auto, unfolding(record::specs::Layout::checked))]
 pub fn is_checked(page: &[u8], n: u32) -> bool
     requires { 512 * n + 512 ≤ length page.now }
     ensures { result ≡ checked (block_at page.now n) }
 {
-    let s = sum_up(page, n);
-    let p = s.plain;
-    let w = s.weighed;
-    (two_at(page, n, 508) == p) & (two_at(page, n, 510) == w)
+    let Sums { plain, weighed } = sum_up(page, n);
+    two_at(page, n, 508) == plain && two_at(page, n, 510) == weighed
 }

@@ -2,17 +2,19 @@
 use mathlib.Core.Path.{◌≡◌, refl, sym, ap, ◌∙◌}
 use mathlib.Core.Bool.{Bool, true, false, cond, not, ◌||◌, true≢false}
 use mathlib.Core.List.{List, [], ◌∷◌, ◌++◌, append_assoc, append-nil}
-use Prim.Native.Nat.{ℕ, suc, ◌+◌, ◌-◌, ◌≤◌, ◌<◌}
+use Prim.Native.Nat.{ℕ, suc, ◌+◌, ◌≤◌, ◌<◌}
 use native.Mathlib.Omega.{arith}
 use native.Mathlib.Numerals.{add-one}
-use borrow.Author.Tests.{eqb-true, eq-eqb, ne_eqb}
-use lib.Dec.{eqb}
-use lib.ListN.{length, take, drop, get_or, length-drop, drop_of_length-le}
-use lib.Seq.{drop-cons, take-suc, get_or-drop}
+use borrow.Author.Tests.{ltb-false, eqb-true, eq-eqb, ne_eqb}
+use lib.Dec.{eqb, ltb}
+use Rattle.std.specs.Prelude.{Some, None}
+use Rattle.std.specs.Option.{unwrap_or}
+use lib.ListN.{length, take, drop, get_or, drop_of_length-le}
+use lib.Seq.{drop-cons}
+use Rattle.std.specs.List.{position_or_len}
 use Rattle.lexical.specs.Chars.{white, delimiter, regular, line_end}
-use Rattle.symbols.specs.Tokens.{token_by, word_token, brace_token, gap, comment, run, between, lexed, before_zero}
-use Rattle.symbols.specs.Lexing.{place_of, skipped, run_of, after_run, Runs, tokens_from, Finds}
-use Rattle.symbols.specs.declared.types.Next.{Next}
+use Rattle.symbols.specs.Tokens.{word_token, brace_token, gap, comment, run, between, lexed}
+use Rattle.symbols.specs.Lexing.{place_of, skipped, run_of, after_run}
 
 -- ---- before a token
 
@@ -91,163 +93,99 @@ brace-law : (b : ℕ) (l : List ℕ) → regular b ≡ false → eqb (place_of f
 unfolding lexed
 brace-law b l e p = let q = place-begins b p in rw (e, q.1, q.0)
 
--- ---- the loops
+-- ---- skipping
 
--- skipping: what is left to skip from k on is what there was to skip
-pub record Skipping (text : List ℕ) (i k : ℕ) (c : Bool) : Type 0 where
-  pub same : skipped c (drop k text) ≡ skipped false (drop i text)
-  pub on : i ≤ k
-  pub in! : k ≤ length text
+-- a byte more
+module _ (text : List ℕ) (i : ℕ) (h : i < length text) where
+  abbrev at_i : ℕ
+  at_i = get_or text i 0
 
-module _ (text : List ℕ) (i k : ℕ) (c : Bool) (s : Skipping text i k c) (h : k < length text) (p : ℕ) (e : p ≡ place_of c (get_or text k 0)) where
-  pub skip-stops : p ≡ 2 → drop k text ≡ skipped false (drop i text)
+  pub skip-turn : (c : Bool) → skipped c (drop i text) ≡ cond (eqb (place_of c at_i) 2) (at_i ∷ drop (i + 1) text) (skipped (eqb (place_of c at_i) 1) (drop (i + 1) text))
   unfolding skipped
-  skip-stops q =
-      drop-cons text k 0 h
-      ∙ (sym (ap (λ (t : Bool). cond t (get_or text k 0 ∷ drop (suc k) text) (skipped (eqb (place_of c (get_or text k 0)) 1) (drop (suc k) text))) (eq-eqb _ 2 (sym e ∙ q)))
-      ∙ (ap (skipped c) (sym (drop-cons text k 0 h)) ∙ s.same))
+  skip-turn c = rw (add-one i) (ap (skipped c) (drop-cons text i 0 h))
 
-  pub skip-goes : (p ≡ 2 → ⊥) → Skipping text i (k + 1) (eqb p 1)
-  unfolding skipped
-  skip-goes q =
-      record {
-        same =
-            rw (add-one k)
-            (ap (λ (n : ℕ). skipped (eqb n 1) (drop (suc k) text)) e
-            ∙ (sym (ap (λ (t : Bool). cond t (get_or text k 0 ∷ drop (suc k) text) (skipped (eqb (place_of c (get_or text k 0)) 1) (drop (suc k) text))) (ne_eqb _ 2 (λ z. q (e ∙ z))))
-            ∙ (ap (skipped c) (sym (drop-cons text k 0 h)) ∙ s.same)));
-        on = let g = s.on in omega arith;
-        in! = omega arith;
-      }
+  pub skip-comment : {t : Bool} → t ≡ line_end at_i → skipped true (drop i text) ≡ skipped (not t) (drop (i + 1) text)
+  skip-comment {t} e = skip-turn true ∙ by t e
+    where
+      by : (t : Bool) → t ≡ line_end at_i → cond (eqb (cond (line_end at_i) 0 1) 2) (at_i ∷ drop (i + 1) text) (skipped (eqb (cond (line_end at_i) 0 1) 1) (drop (i + 1) text)) ≡ skipped (not t) (drop (i + 1) text)
+      by true e = rw (sym e)
+      by false e = rw (sym e)
 
-pub skip-ends : (text : List ℕ) (i k : ℕ) (c : Bool) → Skipping text i k c → length text ≤ k → drop k text ≡ skipped false (drop i text)
+  pub skip-percent : at_i ≡ 37 → skipped false (drop i text) ≡ skipped true (drop (i + 1) text)
+  skip-percent e = skip-turn false ∙ rw (eq-eqb at_i 37 e)
+
+  pub skip-white : (at_i ≡ 37 → ⊥) → white at_i ≡ true → skipped false (drop i text) ≡ skipped false (drop (i + 1) text)
+  skip-white n e = skip-turn false ∙ rw (ne_eqb at_i 37 n, e)
+
+  pub skip-stops : (at_i ≡ 37 → ⊥) → white at_i ≡ false → skipped false (drop i text) ≡ drop i text
+  skip-stops n e = skip-turn false ∙ rw (ne_eqb at_i 37 n, e, add-one i) (sym (drop-cons text i 0 h))
+
+pub skip-ends : (c : Bool) (text : List ℕ) (i : ℕ) → length text ≤ i → skipped c (drop i text) ≡ []
 unfolding skipped
-skip-ends text i k c s h = drop_of_length-le text h ∙ (ap (skipped c) (sym (drop_of_length-le text h)) ∙ s.same)
+skip-ends c text i h = ap (skipped c) (drop_of_length-le text h)
 
--- a run: the characters so far are regular, and what is left of the run from k on is what follows them
-pub record Running (text : List ℕ) (i k : ℕ) : Type 0 where
-  pub run : run_of (drop i text) ≡ take (k - i) (drop i text) ++ run_of (drop k text)
-  pub rest : after_run (drop k text) ≡ after_run (drop i text)
-  pub on : i ≤ k
-  pub in! : k ≤ length text
+pub skipped-shorter : (c : Bool) (l : List ℕ) → length (skipped c l) ≤ length l
+unfolding skipped
+skipped-shorter c [] = omega arith
+skipped-shorter c (x ∷ l) = by (skipped-shorter (eqb (place_of c x) 1) l) (eqb (place_of c x) 2)
+  where
+    by : length (skipped (eqb (place_of c x) 1) l) ≤ length l → (t : Bool) → length (cond t (x ∷ l) (skipped (eqb (place_of c x) 1) l)) ≤ suc (length l)
+    by on true = omega arith
+    by on false = omega arith
 
-pub running-start : (text : List ℕ) (i : ℕ) → i ≤ length text → Running text i i
-running-start text i h = let e : i - i ≡ 0 = omega arith in record { run = rw e; rest = refl; on = omega arith; in! = h }
+-- ---- a run of regular characters, which goes to the first byte that is not
 
-one_more : (text : List ℕ) (i k : ℕ) → i ≤ k → k < length text → take (k + 1 - i) (drop i text) ≡ take (k - i) (drop i text) ++ (get_or text k 0 ∷ [])
-one_more text i k g h =
-    let e : k + 1 - i ≡ suc (k - i) = omega arith in
-    let q : i + (k - i) ≡ k = omega arith in
-    let l : k - i < length (drop i text) = rw length-drop (omega arith) in
-    rw e (take-suc (drop i text) (k - i) 0 l ∙ ap (λ (x : ℕ). take (k - i) (drop i text) ++ (x ∷ [])) (get_or-drop i text (k - i) 0 ∙ ap (λ (n : ℕ). get_or text n 0) q))
+abbrev pub run_length : List ℕ → ℕ
+run_length l = position_or_len (λ b. not (regular b)) l
 
-module _ (text : List ℕ) (i k : ℕ) (s : Running text i k) where
-  module _ (h : k < length text) where
-    pub running-goes : regular (get_or text k 0) ≡ true → Running text i (k + 1)
-    unfolding run_of after_run
-    running-goes e =
-        let b = get_or text k 0 in
-        record {
-          run =
-              s.run
-              ∙ (ap (λ (l : List ℕ). take (k - i) (drop i text) ++ run_of l) (drop-cons text k 0 h)
-              ∙ (ap (λ (t : Bool). take (k - i) (drop i text) ++ cond t (get_or text k 0 ∷ run_of (drop (suc k) text)) []) e
-              ∙ (sym (append_assoc (take (k - i) (drop i text)) (get_or text k 0 ∷ []) (run_of (drop (suc k) text)))
-              ∙ (λ j. sym (one_more text i k s.on h) j ++ run_of (drop (sym (add-one k) j) text)))));
-          rest =
-              ap (λ (n : ℕ). after_run (drop n text)) (add-one k)
-              ∙ (sym (ap (λ (t : Bool). cond t (after_run (drop (suc k) text)) (get_or text k 0 ∷ drop (suc k) text)) e)
-              ∙ (ap after_run (sym (drop-cons text k 0 h)) ∙ s.rest));
-          on = let g = s.on in omega arith;
-          in! = omega arith;
-        }
+one-more : (n : ℕ) → 1 + n ≡ suc n
+one-more n = omega arith
 
-    pub running-stops : regular (get_or text k 0) ≡ false → Runs text i k
-    unfolding run_of after_run
-    running-stops e =
-        record {
-          run =
-              sym (s.run
-              ∙ (ap (λ (l : List ℕ). take (k - i) (drop i text) ++ run_of l) (drop-cons text k 0 h)
-              ∙ (ap (λ (t : Bool). take (k - i) (drop i text) ++ cond t (get_or text k 0 ∷ run_of (drop (suc k) text)) []) e ∙ append-nil _)));
-          rest =
-              drop-cons text k 0 h
-              ∙ (sym (ap (λ (t : Bool). cond t (after_run (drop (suc k) text)) (get_or text k 0 ∷ drop (suc k) text)) e)
-              ∙ (ap after_run (sym (drop-cons text k 0 h)) ∙ s.rest));
-          on = s.on;
-          in! = s.in!;
-        }
+pub or_length : (p n : ℕ) → p ≤ n → unwrap_or (cond (ltb p n) (Some p) None) n ≡ p
+or_length p n h = by (ltb p n) refl
+  where
+    by : (t : Bool) → ltb p n ≡ t → unwrap_or (cond t (Some p) None) n ≡ p
+    by true e = refl
+    by false e = let g : n ≤ p = ltb-false p n e in omega arith
 
-  pub running-ends : length text ≤ k → Runs text i k
-  unfolding run_of after_run
-  running-ends h =
-      let z = drop_of_length-le text h in
-      record {
-        run = sym (s.run ∙ (ap (λ (l : List ℕ). take (k - i) (drop i text) ++ run_of l) z ∙ append-nil _));
-        rest = z ∙ (ap after_run (sym z) ∙ s.rest);
-        on = s.on;
-        in! = s.in!;
-      }
+pub run-taken : (l : List ℕ) → take (run_length l) l ≡ run_of l
+unfolding run_of
+run-taken [] = refl
+run-taken (x ∷ l) = by (run-taken l) (regular x)
+  where
+    by : take (run_length l) l ≡ run_of l → (t : Bool) → take (cond (not (not t)) (1 + run_length l) 0) (x ∷ l) ≡ cond t (x ∷ run_of l) []
+    by on true = rw (one-more (run_length l)) (ap (λ (y : List ℕ). x ∷ y) on)
+    by on false = refl
+
+pub run-dropped : (l : List ℕ) → drop (run_length l) l ≡ after_run l
+unfolding after_run
+run-dropped [] = refl
+run-dropped (x ∷ l) = by (run-dropped l) (regular x)
+  where
+    by : drop (run_length l) l ≡ after_run l → (t : Bool) → drop (cond (not (not t)) (1 + run_length l) 0) (x ∷ l) ≡ cond t (after_run l) (x ∷ l)
+    by on true = rw (one-more (run_length l)) on
+    by on false = refl
+
+pub run-more : (b : ℕ) (l : List ℕ) → regular b ≡ true → run_length (b ∷ l) ≡ 1 + run_length l
+run-more b l e = rw e refl
 
 -- ---- the next token
 
-module _ (text : List ℕ) (i k : ℕ) (s : drop k text ≡ skipped false (drop i text)) (r : Next) where
-  pub none-next : length text ≤ k → r.found ≡ false → tokens_from r text ≡ lexed gap (drop i text)
-  unfolding lexed
-  none-next h e = rw e (sym ((gap-skips (drop i text)).0 ∙ ap (lexed gap) (sym s ∙ drop_of_length-le text h)))
+pub empty : (l : List ℕ) → length l ≡ 0 → l ≡ []
+empty [] e = refl
+empty (x ∷ l) e = absurd (omega arith)
 
-  module _ (h : k < length text) (f : r.found ≡ true) where
-    here : lexed gap (drop i text) ≡ lexed gap (get_or text k 0 ∷ drop (suc k) text)
-    here = (gap-skips (drop i text)).0 ∙ ap (lexed gap) (sym s ∙ drop-cons text k 0 h)
+pub none-next : (text : List ℕ) → skipped false text ≡ [] → [] ≡ lexed gap text
+unfolding lexed
+none-next text e = sym ((gap-skips text).0 ∙ ap (lexed gap) e)
 
-    pub word_next : (e : ℕ) → regular (get_or text k 0) ≡ true → Runs text (k + 1) e → r.at ≡ e → token_by r.code r.value ≡ word_token (take (e - k) (drop k text)) → tokens_from r text ≡ lexed gap (drop i text)
-    word_next e g u a t =
-        let o : k + 1 ≤ e = u.on in
-        let m : e - k ≡ suc (e - suc k) = omega arith in
-        let w : take (e - k) (drop k text) ≡ get_or text k 0 ∷ run_of (drop (suc k) text) = (λ j. take (m j) (drop-cons text k 0 h j)) ∙ ap (λ (l : List ℕ). get_or text k 0 ∷ l) (rw (add-one k) at u.run) in
-        rw f
-        ((λ j. (t ∙ ap word_token w) j ∷ lexed gap ((ap (λ (n : ℕ). drop n text) a ∙ (u.rest ∙ ap (λ (n : ℕ). after_run (drop n text)) (add-one k))) j))
-        ∙ sym (here ∙ word-law (get_or text k 0) (drop (suc k) text) g))
+module _ (text l : List ℕ) (b : ℕ) (s : skipped false text ≡ b ∷ l) where
+  pub word-next : regular b ≡ true → (w r : List ℕ) → w ≡ run_of (b ∷ l) → r ≡ after_run (b ∷ l) → word_token w ∷ lexed gap r ≡ lexed gap text
+  unfolding run_of after_run
+  word-next g w r e f =
+      let ew : w ≡ b ∷ run_of l = rw g at e in
+      let er : r ≡ after_run l = rw g at f in
+      rw (ew, er) (sym ((gap-skips text).0 ∙ ap (lexed gap) s ∙ word-law b l g))
 
-    pub brace-next : regular (get_or text k 0) ≡ false → r.at ≡ k + 1 → token_by r.code r.value ≡ brace_token (get_or text k 0) → tokens_from r text ≡ lexed gap (drop i text)
-    brace-next g a t =
-        rw f
-        ((λ j. t j ∷ lexed gap (drop ((a ∙ add-one k) j) text))
-        ∙ sym (here ∙ brace-law (get_or text k 0) (drop (suc k) text) g (skipped-head false (drop i text) (get_or text k 0) (drop (suc k) text) (sym s ∙ drop-cons text k 0 h))))
-
--- ---- the end of a text
-
-pub record Nonzero (l : List ℕ) (i : ℕ) : Type 0 where
-  pub same : take i l ++ before_zero (drop i l) ≡ before_zero l
-  pub in! : i ≤ length l
-
-module _ (l : List ℕ) (i : ℕ) (s : Nonzero l i) where
-  module _ (h : i < length l) where
-    pub zero-goes : (get_or l i 0 ≡ 0 → ⊥) → Nonzero l (i + 1)
-    unfolding before_zero
-    zero-goes ne =
-        record {
-          same =
-              rw (add-one i)
-              ((λ j. take-suc l i 0 h j ++ before_zero (drop (suc i) l))
-              ∙ (append_assoc (take i l) (get_or l i 0 ∷ []) (before_zero (drop (suc i) l))
-              ∙ (ap (λ (x : List ℕ). take i l ++ x) (sym (ap (λ (t : Bool). cond t [] (get_or l i 0 ∷ before_zero (drop (suc i) l))) (ne_eqb _ 0 ne)) ∙ ap before_zero (sym (drop-cons l i 0 h))) ∙ s.same)));
-          in! = omega arith;
-        }
-
-    pub zero-stops : get_or l i 0 ≡ 0 → take i l ≡ before_zero l
-    unfolding before_zero
-    zero-stops e = sym (append-nil (take i l)) ∙ (ap (λ (x : List ℕ). take i l ++ x) (sym (ap (λ (t : Bool). cond t [] (get_or l i 0 ∷ before_zero (drop (suc i) l))) (eq-eqb _ 0 e)) ∙ ap before_zero (sym (drop-cons l i 0 h))) ∙ s.same)
-
-  pub zero-ends : length l ≤ i → take i l ≡ before_zero l
-  unfolding before_zero
-  zero-ends h = sym (append-nil (take i l)) ∙ (ap (λ (x : List ℕ). take i l ++ before_zero x) (sym (drop_of_length-le l h)) ∙ s.same)
-
--- ---- what was found
-
-module _ (text : List ℕ) (i : ℕ) (r : Next) (f : Finds text i r) where
-  pub found-token : r.found ≡ true → token_by r.code r.value ∷ lexed gap (drop r.at text) ≡ lexed gap (drop i text)
-  found-token e = sym (ap (λ (t : Bool). cond t (token_by r.code r.value ∷ lexed gap (drop r.at text)) []) e) ∙ f.tokens
-
-  pub found_none : r.found ≡ false → [] ≡ lexed gap (drop i text)
-  found_none e = sym (ap (λ (t : Bool). cond t (token_by r.code r.value ∷ lexed gap (drop r.at text)) []) e) ∙ f.tokens
+  pub brace-next : regular b ≡ false → brace_token b ∷ lexed gap l ≡ lexed gap text
+  brace-next g = sym ((gap-skips text).0 ∙ ap (lexed gap) s ∙ brace-law b l g (skipped-head false text b l s))

@@ -1,34 +1,73 @@
--- A number is read one figure at a time; and what token a run of regular characters is.
-use mathlib.Core.Path.{◌≡◌, sym, ap, ◌∙◌}
-use mathlib.Core.Bool.{Bool, true, false, cond}
-use mathlib.Core.List.{List, foldl}
-use Prim.Native.Nat.{ℕ, suc, ◌+◌, ◌≤◌, ◌<◌}
-use native.Mathlib.Numerals.{add-one}
-use lib.IntN.{ℤ, pos}
-use lib.ListN.{length, drop, get_or, drop_of_length-le}
-use lib.Seq.{drop-cons}
-use Rattle.lexical.specs.Numbers.{numeric, with_figure, number_of, fits, value_of}
-use Rattle.symbols.specs.Tokens.{num_t, other, token_by, named, word_token}
+-- A number is read one figure at a time, and its first figure tells it from a name.
+use mathlib.Core.Path.{◌≡◌, refl, ap, ◌∙◌}
+use mathlib.Core.Bool.{Bool, true, false, cond, ◌&&◌, ◌||◌}
+use mathlib.Core.List.{List, [], ◌∷◌, foldl}
+use Prim.Native.Nat.{ℕ, ◌-◌, ◌<◌}
+use native.Mathlib.Omega.{arith}
+use borrow.Author.Tests.{ne_eqb}
+use lib.Dec.{eqb, leb}
+use Rattle.std.proofs.lemmas.Bool.{leb-false, le-leb, lt-leb}
+use Rattle.std.specs.List.{fold}
+use Rattle.lexical.specs.Chars.{decimal}
+use Rattle.lexical.specs.Numbers.{none, numeric, number_of, with_figure, with_digit, with_other, after_digit, after_other, after_point, after_sign}
+use Rattle.lexical.specs.declared.types.Part.TheVariants.{Keyword}
 use Rattle.lexical.specs.declared.types.Number.{Number}
 
--- the number so far, with the figures that are left
-pub figure-turn : (w : List ℕ) (i : ℕ) (n m : Number) → i < length w → m ≡ with_figure n (get_or w i 0) → foldl with_figure n (drop i w) ≡ number_of w → foldl with_figure m (drop (i + 1) w) ≡ number_of w
-figure-turn w i n m h e s = rw (add-one i) (ap (λ (x : Number). foldl with_figure x (drop (suc i) w)) e ∙ (ap (foldl with_figure n) (sym (drop-cons w i 0 h)) ∙ s))
+-- the two folds are one
+pub fold_is : {A B : Type 0} (f : B → A → B) (b : B) (l : List A) → fold f b l ≡ foldl f b l
+fold_is f b [] = refl
+fold_is f b (x ∷ l) = fold_is f (f b x) l
 
-pub figure-end : (w : List ℕ) (i : ℕ) (n : Number) → length w ≤ i → foldl with_figure n (drop i w) ≡ number_of w → n ≡ number_of w
-figure-end w i n h s = ap (foldl with_figure n) (sym (drop_of_length-le w h)) ∙ s
+-- what a figure makes of a number's part
+part-is : (n : Number) (b : ℕ) → (with_figure n b).part ≡ cond (decimal b) (after_digit n.part) (after_other n.part b)
+unfolding with_figure with_digit with_other
+part-is n b = by (decimal b)
+  where
+    by : (t : Bool) → (cond t (with_digit n (b - 48)) (with_other n b)).part ≡ cond t (after_digit n.part) (after_other n.part b)
+    by true = refl
+    by false = refl
 
--- ---- the token of a run of regular characters, by the number that it is or its name
+-- what is no number stays none
+keyword-on : (n : Number) (b : ℕ) → n.part ≡ Keyword → (with_figure n b).part ≡ Keyword
+unfolding after_other
+keyword-on n b e = part-is n b ∙ rw e (by (decimal b) (eqb b 46) (eqb b 43 || eqb b 45))
+  where
+    by : (d p s : Bool) → cond d (after_digit Keyword) (cond p (after_point Keyword) (cond s (after_sign Keyword) Keyword)) ≡ Keyword
+    by true p s = refl
+    by false true s = refl
+    by false false true = refl
+    by false false false = refl
 
-module _ (w : List ℕ) (n : Number) (e : n ≡ number_of w) where
-  pub word_number : numeric n.part ≡ true → fits n ≡ true → (v : ℤ) → v ≡ value_of n → token_by 1 v ≡ word_token w
-  unfolding token_by word_token
-  word_number p f v ev = ap num_t ev ∙ (sym (ap (λ (t : Bool). cond t (cond (fits n) (num_t (value_of n)) other) (token_by (named w) (pos 0))) p ∙ ap (λ (t : Bool). cond t (num_t (value_of n)) other) f) ∙ ap (λ (m : Number). cond (numeric m.part) (cond (fits m) (num_t (value_of m)) other) (token_by (named w) (pos 0))) e)
+keyword-stays : (n : Number) (l : List ℕ) → n.part ≡ Keyword → (foldl with_figure n l).part ≡ Keyword
+keyword-stays n [] e = e
+keyword-stays n (b ∷ l) e = keyword-stays (with_figure n b) l (keyword-on n b e)
 
-  pub word-large : numeric n.part ≡ true → fits n ≡ false → token_by 0 (pos 0) ≡ word_token w
-  unfolding token_by word_token
-  word-large p f = sym (ap (λ (t : Bool). cond t (cond (fits n) (num_t (value_of n)) other) (token_by (named w) (pos 0))) p ∙ ap (λ (t : Bool). cond t (num_t (value_of n)) other) f) ∙ ap (λ (m : Number). cond (numeric m.part) (cond (fits m) (num_t (value_of m)) other) (token_by (named w) (pos 0))) e
+-- a number begins with a digit, a point or a sign, which stand from 43 to 57
+outside : (b : ℕ) → (leb 43 b && leb b 57) ≡ false → (decimal b || (eqb b 46 || (eqb b 43 || eqb b 45))) ≡ false
+outside b h = by (leb 43 b) (leb b 57) refl refl h
+  where
+    other : (leb 48 b && leb b 57) ≡ false → (b ≡ 46 → ⊥) → (b ≡ 43 → ⊥) → (b ≡ 45 → ⊥) → (decimal b || (eqb b 46 || (eqb b 43 || eqb b 45))) ≡ false
+    other d p s m = rw (d, ne_eqb b 46 p, ne_eqb b 43 s, ne_eqb b 45 m) refl
 
-  pub word-name : numeric n.part ≡ false → (k : ℕ) → k ≡ named w → token_by k (pos 0) ≡ word_token w
-  unfolding word_token
-  word-name p k ek = ap (λ (m : ℕ). token_by m (pos 0)) ek ∙ (sym (ap (λ (t : Bool). cond t (cond (fits n) (num_t (value_of n)) other) (token_by (named w) (pos 0))) p) ∙ ap (λ (m : Number). cond (numeric m.part) (cond (fits m) (num_t (value_of m)) other) (token_by (named w) (pos 0))) e)
+    by : (l u : Bool) → leb 43 b ≡ l → leb b 57 ≡ u → (l && u) ≡ false → (decimal b || (eqb b 46 || (eqb b 43 || eqb b 45))) ≡ false
+    by true true e f g = cc
+    by true false e f g =
+        let q : 57 < b = leb-false b 57 f in
+        other (rw (le-leb 48 b (omega arith), f) refl) (λ x. omega arith) (λ x. omega arith) (λ x. omega arith)
+    by false u e f g =
+        let q : b < 43 = leb-false 43 b e in
+        other (rw (lt-leb 48 b (omega arith)) refl) (λ x. omega arith) (λ x. omega arith) (λ x. omega arith)
+
+pub named_only : (b : ℕ) (l : List ℕ) → (leb 43 b && leb b 57) ≡ false → numeric (number_of (b ∷ l)).part ≡ false
+unfolding number_of after_other
+named_only b l h = ap numeric (keyword-stays (with_figure none b) l (part-is none b ∙ by (decimal b) (eqb b 46) (eqb b 43 || eqb b 45) (outside b h)))
+  where
+    by : (d p s : Bool) → (d || (p || s)) ≡ false → cond d (after_digit none.part) (cond p (after_point none.part) (cond s (after_sign none.part) Keyword)) ≡ Keyword
+    by true p s e = cc
+    by false true s e = cc
+    by false false true e = cc
+    by false false false e = refl
+
+pub named_none : numeric (number_of []).part ≡ false
+unfolding number_of
+named_none = refl

@@ -1,8 +1,10 @@
 -- The tokens of a text one after the other: what stands before the next one, and where it ends.
-use Rattle.std.specs.Prelude.{ℕ, ◌-◌, ◌≤◌, ◌<◌, ◌≡◌, Bool, true, false, cond, List, [], ◌∷◌, eqb, length, take, drop}
+use Rattle.std.specs.Prelude.{ℕ, ◌<◌, ◌≡◌, Bool, true, false, cond, List, [], ◌∷◌, eqb, length, Option, Some, None, IfSome}
+use Rattle.std.specs.Borrow.{Bor}
 use Rattle.lexical.specs.Chars.{white, regular, line_end}
-use Rattle.symbols.specs.Tokens.{Token, token_by, gap, lexed}
-use Rattle.symbols.specs.declared.types.Next.{Next}
+use Rattle.symbols.specs.Tokens.{Token, gap, lexed}
+use Rattle.symbols.specs.Symbols.{token_of}
+use Rattle.symbols.specs.declared.types.Symbol.{Symbol}
 
 -- what a byte is in a comment (true) or outside one: 0 before the next token, 1 in a comment, 2 the first byte of the next token
 abbrev pub place_of : Bool → ℕ → ℕ
@@ -24,19 +26,12 @@ unfoldable pub after_run : List ℕ → List ℕ
 after_run [] = []
 after_run (b ∷ l) = cond (regular b) (after_run l) (b ∷ l)
 
--- a run of regular characters goes from i to r
-pub record Runs (text : List ℕ) (i r : ℕ) : Type 0 where
-  pub run : take (r - i) (drop i text) ≡ run_of (drop i text)
-  pub rest : drop r text ≡ after_run (drop i text)
-  pub on : i ≤ r
-  pub in! : r ≤ length text
+-- a token, and those of the text after it; or none
+abbrev pub tokens_from : Option (Symbol × Bor (List ℕ)) → List Token
+tokens_from (Some r) = token_of r.0 ∷ lexed gap r.1.now
+tokens_from None = []
 
--- a token, and what is read after it; or none
-abbrev pub tokens_from : Next → List ℕ → List Token
-tokens_from r text = cond r.found (token_by r.code r.value ∷ lexed gap (drop r.at text)) []
-
--- r is the first token from i on
-pub record Finds (text : List ℕ) (i : ℕ) (r : Next) : Type 0 where
-  pub tokens : tokens_from r text ≡ lexed gap (drop i text)
-  pub on : r.found ≡ true → i < r.at
-  pub in! : r.at ≤ length text
+-- r is the first token of a text, with a shorter text after it
+pub record Finds (text : List ℕ) (r : Option (Symbol × Bor (List ℕ))) : Type 0 where
+  pub tokens : tokens_from r ≡ lexed gap text
+  pub shorter : IfSome r (λ x. length x.1.now < length text)

@@ -1,2 +1,3 @@
 pub mod Tokens
+pub mod Symbols
 pub mod Lexing

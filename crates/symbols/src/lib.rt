@@ -3,6 +3,7 @@
 
 mod lexing;
 mod naming;
-pub mod types;
+mod types;
 
 pub use lexing::next;
+pub use types::{Operator, Symbol};

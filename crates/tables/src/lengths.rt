@@ -17,14 +17,13 @@ fn plain_words(c: Closing) -> u32
 {
     match c {
         Closing::Nothing => 1,
-        Closing::Gray => 6,
-        Closing::Rgb => 14,
-        Closing::Cmyk => 18,
-        Closing::CalGray(_) => 9,
-        Closing::CalRgb(_) => 26,
-        Closing::Lab(_) => 16,
         Closing::NoMark => 2,
-        Closing::EveryInk => 6,
+        Closing::Gray | Closing::EveryInk => 6,
+        Closing::CalGray(_) => 9,
+        Closing::Rgb => 14,
+        Closing::Lab(_) => 16,
+        Closing::Cmyk => 18,
+        Closing::CalRgb(_) => 26,
     }
 }
 
@@ -61,11 +60,7 @@ pub fn words_in(page: &[u8], l: Level) -> u32
                 + run_words(page, block, program_run(page, block)) as u32
                 + words_in(page, s)
         }
-        Level::Indexed {
-            block: _,
-            base,
-            hival,
-        } => {
+        Level::Indexed { base, hival, .. } => {
             let s = tinted_at(page, base);
             3 + count(s) * (hival as u32 + 1) + words_in(page, s)
         }

@@ -60,6 +60,13 @@ test-is e q u v k count from x sum s l low up high is =
         ap value_of (sym lost) ∙ value-drop from (take (count + 1) x) (limbs-take (count + 1) x s) (omega arith)
         ∙ ap (λ (y : ℕ). y / base ^ from) (is ∙ ap (mixed u q) (sym m) ∙ mixed-above u q (2 * count - q))
 
+-- what a probe found, of as many limbs
+pub probe : (e q u v k count from size : ℕ) (x : List ℕ) (r : Bool) → size ≡ k + 1 → count ≡ from + k → Limbs x → count + 1 ≤ length x → e ≤ 2 * k → q ≤ 2 * count
+    → 2 * count ≤ q + e → value_of (take (count + 1) x) ≡ mixed u q (2 * count) → r ≡ leb (v ^ e * 10000 ^ (2 * k - e)) (value_of (take size (drop from x)))
+    → r ≡ reaches e q u v
+probe e q u v k count from size x r n sum s l low up high is h =
+    h ∙ ap (λ (m : ℕ). leb (v ^ e * 10000 ^ (2 * k - e)) (value_of (take m (drop from x)))) n ∙ test-is e q u v k count from x sum s l low up high is
+
 -- where the search is: lo reaches, and from hi on nothing does
 pub record Between (e p u lo hi : ℕ) : Type 0 where
   pub high : hi ≤ 10001
@@ -83,9 +90,9 @@ stopped {e} {p} {u} {lo} {hi} b h =
     sym (greatest-is (reaches e p u) lo 10000 (omega arith) b.yes (λ w a c. b.none w (omega arith) c))
 
 -- the comparison of v's product, made with E factors and K pairs, where these are e and k
-pub probed : (v e k from E K : ℕ) (x y : List ℕ) (r : Bool) → E ≡ e → K ≡ k → e ≤ 2 * k → value_of (take (K + 1) y) ≡ mixed v E (2 * K)
-    → r ≡ leb (value_of (take (K + 1) y)) (value_of (take (K + 1) (drop from x))) → r ≡ leb (v ^ e * 10000 ^ (2 * k - e)) (value_of (take (k + 1) (drop from x)))
-probed v e k from E K x y r he hk l is h =
+pub probed : (v e k E K : ℕ) (x y : List ℕ) (r : Bool) → E ≡ e → K ≡ k → e ≤ 2 * k → value_of (take (K + 1) y) ≡ mixed v E (2 * K)
+    → r ≡ leb (value_of (take (K + 1) y)) (value_of x) → r ≡ leb (v ^ e * 10000 ^ (2 * k - e)) (value_of x)
+probed v e k E K x y r he hk l is h =
     let m : e + (2 * k - e) ≡ 2 * k = omega arith in
     let g : mixed v E (2 * K) ≡ v ^ e * 10000 ^ (2 * k - e) = (λ t. mixed v (he t) (2 * hk t)) ∙ ap (mixed v e) (sym m) ∙ mixed-above v e (2 * k - e) in
-    h ∙ (λ t. leb ((is ∙ g) t) (value_of (take (hk t + 1) (drop from x))))
+    h ∙ (λ t. leb ((is ∙ g) t) (value_of x))

@@ -7,23 +7,28 @@ ghost use Rattle.tenths.specs.Tenths.{reaches, greatest_of, settled, ten_thousan
 use crate::limbs::{at_most, product};
 use fixed::unit_part;
 
-// Whether v^e * 10000^(2k - e) is at most the number of x's k + 1 limbs from `from` on. The exponents that occur most stand as numbers of their own, which the
-// compiler unrolls.
-fn settles(v: u64, e: usize, k: usize, x: &[u64], from: usize) -> bool
-    requires { (v ≤ 10000) × (e ≤ 10) × (k ≡ (e + 1) / 2) × (from + (k + 1) ≤ length x.now) × Limbs x.now }
-    ensures { result ≡ leb (v ^ e * 10000 ^ (2 * k - e)) (value_of (take (k + 1) (drop from x.now))) }
+// Whether v^e * 10000^(2k - e), of k pairs of factors, is at most the number of x's k + 1 limbs. The exponents that occur most stand as numbers of their own,
+// which the compiler unrolls.
+fn settles(v: u64, e: usize, x: &[u64]) -> bool
+    requires { (v ≤ 10000) × (e ≤ 10) × (length x.now ≡ (e + 1) / 2 + 1) × Limbs x.now }
+    ensures { let k = (e + 1) / 2 in result ≡ leb (v ^ e * 10000 ^ (2 * k - e)) (value_of x.now) }
 {
     let mut y = [0u64; 6];
-    if e == 5 {
-        product(&mut y, v, 5, 3);
-        return at_most(&y, x, from, 4);
+    match e {
+        5 => {
+            product(&mut y, v, 5, 3);
+            at_most(&y[..4], x)
+        }
+        10 => {
+            product(&mut y, v, 10, 5);
+            at_most(&y, x)
+        }
+        _ => {
+            let k = e.div_ceil(2);
+            product(&mut y, v, e, k);
+            at_most(&y[..k + 1], x)
+        }
     }
-    if e == 10 {
-        product(&mut y, v, 10, 5);
-        return at_most(&y, x, from, 6);
-    }
-    product(&mut y, v, e, k);
-    at_most(&y, x, from, k + 1)
 }
 
 // How many pairs of factors the product of u has: room for q that are u, and no fewer than the product of a probe.
@@ -31,12 +36,7 @@ fn pairs(q: usize, e: usize) -> usize
     requires { (1 ≤ q) × (q ≤ most_tenths) × (1 ≤ e) × (e ≤ 10) }
     ensures { ((e + 1) / 2 ≤ result) × (result ≤ 20) × (q ≤ 2 * result) × (2 * result ≤ q + e) }
 {
-    let k = (e + 1) / 2;
-    let r = (q + 1) / 2;
-    if r < k {
-        return k;
-    }
-    r
+    q.div_ceil(2).max(e.div_ceil(2))
 }
 
 // The greatest v of 0..10000 with v^e * 10000^q <= u^q * 10000^e. lo keeps it, hi does not, and the search stops at the first v that is settled.
@@ -45,18 +45,18 @@ fn bisect(u: u64, q: usize, e: usize) -> u64
     ensures { result ≡ greatest_of (reaches e q u) 10000 }
 {
     let mut x = [0u64; 21];
-    let k = (e + 1) / 2;
     let count = pairs(q, e);
     product(&mut x, u, q, count);
-    let from = count - k;
+    let top = &x[count - e.div_ceil(2)..count + 1];
     let mut lo: u64 = 0;
     let mut hi: u64 = 10001;
+    // Kept: a loop that gives v by break, which the customer names (docs/DECISIONS.md, Forms by place in the code).
     let v = loop {
         if hi - lo <= 1 {
             break lo;
         }
         let m = (lo + hi) / 2;
-        if settles(m, e, k, &x, from) {
+        if settles(m, e, top) {
             lo = m;
         } else {
             hi = m;
@@ -71,12 +71,12 @@ fn settle(u: u64, p: usize) -> u64
     ensures { result ≡ settled p u }
 {
     if p % 2 == 0 {
-        return bisect(u, p / 2, 5);
+        bisect(u, p / 2, 5)
+    } else if p % 5 == 0 {
+        bisect(u, p / 5, 2)
+    } else {
+        bisect(u, p, 10)
     }
-    if p % 5 == 0 {
-        return bisect(u, p / 5, 2);
-    }
-    bisect(u, p, 10)
 }
 
 // A component in millionths, past 0..1 the nearer end, in ten-thousandths. This is no limiting of the component: it stays what it is.

@@ -1,44 +1,11 @@
 // Numbers and bytes, read off a text. Nothing is refused: what is no number is 0.
-ghost use Rattle.std.specs.Prelude.{◌≤◌, ◌<◌, ◌-◌, length, take, IfOk};
+ghost use Rattle.std.specs.Prelude.{◌≤◌, ◌<◌, length, take, IfOk, IfSome};
 ghost use Rattle.std.specs.Io.{ReadsAtMost, StopsAt};
 ghost use Rattle.std.specs.Io.KnownBytes.{IsAtEnd};
 ghost use Rattle.text.specs.Reads.{ReadsInto};
 
 use octets::to_signed;
 use std::io::{Read, Result};
-
-// A number, and the place after it.
-#[derive(Clone, Copy, Drop)]
-pub struct Number {
-    pub value: i32,
-    pub next: usize,
-}
-
-// The numbers of a case, 0 past the last, and the place after them.
-#[derive(Clone, Copy, Drop)]
-pub struct Numbers {
-    pub values: [i32; 24],
-    pub next: usize,
-}
-
-// The character at a place, a newline past the end.
-pub fn char_at(s: &[u8], at: usize) -> u8 {
-    if at < s.len() { s[at] } else { 10 }
-}
-
-// The place of the first character c from `at` on, the text's end where there is none.
-pub fn find(s: &[u8], at: usize, c: u8) -> usize
-    ensures { result ≤ length s.now }
-{
-    let mut i = at;
-    while i < s.len() {
-        if s[i] == c {
-            return i;
-        }
-        i += 1;
-    }
-    s.len()
-}
 
 fn signed_of(size: u64, minus: bool) -> i32 {
     let low = size % 4294967296;
@@ -48,127 +15,76 @@ fn signed_of(size: u64, minus: bool) -> i32 {
     to_signed(low as u32)
 }
 
-fn is_digit(c: u8) -> bool {
-    (48 <= c) & (c <= 57)
-}
-
-// The decimal digits from `at` on.
-fn digits_at(s: &[u8], at: usize, minus: bool) -> Number {
+// The number that decimal digits begin with, and what follows them.
+fn digits_in(s: &[u8], minus: bool) -> (i32, &[u8]) {
     let mut size: u64 = 0;
-    let mut i = at;
-    while i < s.len() {
-        let c = s[i];
-        if !is_digit(c) {
-            return Number {
-                value: signed_of(size, minus),
-                next: i,
-            };
-        }
-        size = (size * 10 + ((c % 16) as u64)) % 10000000000;
-        i += 1;
+    let mut rest = s;
+    while let [c @ b'0'..=b'9', after @ ..] = rest {
+        size = (size * 10 + (*c - b'0') as u64) % 10000000000;
+        rest = after;
     }
-    Number {
-        value: signed_of(size, minus),
-        next: i,
+    (signed_of(size, minus), rest)
+}
+
+// The number that a text begins with, with a minus sign or without, and what follows it.
+fn number_in(s: &[u8]) -> (i32, &[u8]) {
+    match s {
+        [b'-', digits @ ..] => digits_in(digits, true),
+        _ => digits_in(s, false),
     }
 }
 
-// The number at `at`, with a minus sign or without.
-fn number_at(s: &[u8], at: usize) -> Number {
-    if at < s.len() {
-        if s[at] == b'-' {
-            return digits_at(s, at + 1, true);
-        }
-    }
-    digits_at(s, at, false)
-}
-
-// The numbers from `at` on, each after a space, up to the bytes or the line's end.
-pub fn numbers_at(s: &[u8], at: usize) -> Numbers {
+// The numbers that a text begins with, each after a space, up to the bytes or the line's end: 0 past the last, and what follows them.
+pub fn numbers_in(s: &[u8]) -> ([i32; 24], &[u8]) {
     let mut values = [0i32; 24];
-    let mut next = at;
-    let mut i: usize = 0;
-    while i < 24 {
-        if s.len() <= next {
-            return Numbers { values, next };
+    let mut rest = s;
+    for value in values.iter_mut() {
+        match rest {
+            [b' ', b'x', ..] => break,
+            [b' ', after @ ..] => {
+                let (number, next) = number_in(after);
+                *value = number;
+                rest = next;
+            }
+            _ => break,
         }
-        if s[next] != b' ' {
-            return Numbers { values, next };
-        }
-        if char_at(s, next + 1) == b'x' {
-            return Numbers { values, next };
-        }
-        let n = number_at(s, next + 1);
-        let x = n.value;
-        let after = n.next;
-        values[i] = x;
-        next = after;
-        i += 1;
     }
-    Numbers { values, next }
+    (values, rest)
 }
 
 // The value of a hexadecimal digit.
-fn digit_of(c: u8) -> u8
-    ensures { result ≤ 15 }
+fn digit_of(c: u8) -> Option<u8>
+    ensures { IfSome result (λ d. d ≤ 15) }
 {
-    if c < b'a' {
-        return c % 16;
+    match c {
+        b'0'..=b'9' => Some(c - b'0'),
+        b'a'..=b'f' => Some(c - b'a' + 10),
+        _ => None,
     }
-    (c % 16 + 9) % 16
 }
 
-fn is_hex(c: u8) -> bool {
-    is_digit(c) | ((b'a' <= c) & (c <= b'f'))
+// The byte that a text begins with, and what follows it: two hexadecimal digits, or a full stop for a zero byte.
+fn byte_in(s: &[u8]) -> Option<(u8, &[u8])> {
+    match s {
+        [b'.', rest @ ..] => Some((0, rest)),
+        [high, low, rest @ ..] => Some((digit_of(*high)? * 16 + digit_of(*low)?, rest)),
+        _ => None,
+    }
 }
 
-// A byte of the text, and how many characters it takes: 0 where there is none.
-#[derive(Clone, Copy, Drop)]
-pub struct Byte {
-    pub value: u8,
-    pub size: usize,
-}
-
-// The byte at a place: two hexadecimal digits, or a full stop for a zero byte.
-fn byte_at(s: &[u8], at: usize) -> Byte
-    ensures { result.size ≤ length s.now - at }
-{
-    if s.len() <= at {
-        return Byte { value: 0, size: 0 };
-    }
-    let high = s[at];
-    if high == b'.' {
-        return Byte { value: 0, size: 1 };
-    }
-    if s.len() - at < 2 {
-        return Byte { value: 0, size: 0 };
-    }
-    let low = s[at + 1];
-    if is_hex(high) & is_hex(low) {
-        return Byte {
-            value: digit_of(high) * 16 + digit_of(low),
-            size: 2,
-        };
-    }
-    Byte { value: 0, size: 0 }
-}
-
-// Puts the bytes that stand in the text from `at` on at the start of `out`, as many as it holds, and answers how many.
-pub fn bytes_at(s: &[u8], at: usize, out: &mut [u8]) -> usize
+// Puts the bytes that a text begins with at the start of `out`, as many as it holds, and answers how many.
+pub fn bytes_in(s: &[u8], out: &mut [u8]) -> usize
     ensures { result ≤ length out.new }
 {
-    let mut i = at;
+    let mut rest = s;
     let mut n: usize = 0;
-    while n < out.len() {
-        let b = byte_at(s, i);
-        let x = b.value;
-        let k = b.size;
-        if k == 0 {
-            return n;
-        }
-        out[n] = x;
+    for byte in out.iter_mut() {
+        let Some((x, next)) = byte_in(rest) else {
+            break;
+        };
+        *byte = x;
         n += 1;
-        i += k;
+        rest = next;
     }
     n
 }
@@ -180,8 +96,7 @@ pub fn line_in<R: Read>(input: &mut R, out: &mut [u8]) -> Result<usize>
     ensures bytes { ReadsInto (R.remaining input.old) (R.remaining input.new) result out.new }
     ensures line { IfOk result (λ n. StopsAt (take n out.new) 10) }
 {
-    let mut n: usize = 0;
-    while n < out.len() {
+    for n in 0..out.len() {
         let mut one = [0u8; 1];
         let got = input.read(&mut one)?;
         if got == 0 {
@@ -189,12 +104,11 @@ pub fn line_in<R: Read>(input: &mut R, out: &mut [u8]) -> Result<usize>
         }
         let c = one[0];
         out[n] = c;
-        n += 1;
-        if c == 10 {
-            return Ok(n);
+        if c == b'\n' {
+            return Ok(n + 1);
         }
     }
-    Ok(n)
+    Ok(out.len())
 }
 
 // Reads until `out` is full or the input ends, and answers how many bytes stand at the start of `out`. Where a read fails, what came before it stands there.
@@ -204,6 +118,7 @@ pub fn read_full<R: Read>(input: &mut R, out: &mut [u8]) -> Result<usize>
     ensures end { IfOk result (λ n. n < length out.new → IsAtEnd (R.remaining input.new)) }
 {
     let mut n: usize = 0;
+    // Kept: a `while`, since each turn goes as far as the read went.
     while n < out.len() {
         let got = input.read(&mut out[n..])?;
         if got == 0 {

@@ -4,8 +4,7 @@
 mod input;
 mod output;
 
-pub use input::{Numbers, bytes_at, find, line_in, numbers_at, read_full};
+pub use input::{bytes_in, line_in, numbers_in, read_full};
 pub use output::{
-    say, say_answer, say_bytes, say_dotted, say_float, say_next, say_number, say_refusal, say_size,
-    say_xyz,
+    say, say_answer, say_bytes, say_dotted, say_float, say_next, say_number, say_size, say_xyz,
 };

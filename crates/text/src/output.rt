@@ -1,153 +1,96 @@
 // Numbers, floats, answers and refusals, written to standard output.
 use cie::{Answer, Answered, Xyz};
-use octets::of_signed;
-use std::io::Result;
+use std::io;
 
 // Writes text.
-pub fn say(rt: &impl Print, s: &[u8]) -> Result<()> {
+pub fn say(rt: &impl Print, s: &[u8]) -> io::Result<()> {
     rt.write_all(s)
 }
 
 // Writes a whole number in decimal.
-pub fn say_number(rt: &impl Print, v: i32) -> Result<()> {
-    let bits = of_signed(v) as u64;
-    if bits < 2147483648 {
-        return print!(rt; "{bits}");
-    }
-    say(rt, b"-")?;
-    let size = 4294967296 - bits;
-    print!(rt; "{size}")
+pub fn say_number(rt: &impl Print, v: i32) -> io::Result<()> {
+    print!(rt; "{v}")
 }
 
 // Writes a number that is not negative, in decimal.
-pub fn say_size(rt: &impl Print, n: u32) -> Result<()> {
+pub fn say_size(rt: &impl Print, n: u32) -> io::Result<()> {
     print!(rt; "{n}")
 }
 
 // Writes a space, and a whole number.
-pub fn say_next(rt: &impl Print, v: i32) -> Result<()> {
-    say(rt, b" ")?;
-    say_number(rt, v)
+pub fn say_next(rt: &impl Print, v: i32) -> io::Result<()> {
+    print!(rt; " {v}")
 }
 
 // Writes bytes, each as its two hexadecimal digits, or a full stop where it is zero.
-pub fn say_dotted(rt: &impl Print, s: &[u8]) -> Result<()> {
-    let mut i: usize = 0;
-    while i < s.len() {
-        say_one(rt, s[i])?;
-        i += 1;
+pub fn say_dotted(rt: &impl Print, s: &[u8]) -> io::Result<()> {
+    for &x in s {
+        match x {
+            0 => say(rt, b".")?,
+            _ => print!(rt; "{x:02x}")?,
+        }
     }
     Ok(())
 }
 
-fn say_one(rt: &impl Print, x: u8) -> Result<()> {
-    if x == 0 {
-        return say(rt, b".");
-    }
-    print!(rt; "{x:02x}")
-}
-
 // Writes bytes, each as its two hexadecimal digits.
-pub fn say_bytes(rt: &impl Print, s: &[u8]) -> Result<()> {
-    let mut i: usize = 0;
-    while i < s.len() {
-        let x = s[i];
+pub fn say_bytes(rt: &impl Print, s: &[u8]) -> io::Result<()> {
+    for &x in s {
         print!(rt; "{x:02x}")?;
-        i += 1;
     }
     Ok(())
 }
 
 // The bits of a float; those of a NaN are not told apart.
 fn bits_of(x: f64) -> u64 {
-    if x == x {
-        return f64::to_bits(x);
+    if x.is_nan() {
+        return 0x7ff8_0000_0000_0000;
     }
-    9221120237041090560
+    x.to_bits()
 }
 
 // Writes a float as its sixteen hexadecimal digits.
-pub fn say_float(rt: &impl Print, x: f64) -> Result<()> {
+pub fn say_float(rt: &impl Print, x: f64) -> io::Result<()> {
     let bits = bits_of(x);
     print!(rt; "{bits:016x}")
 }
 
 // Writes X, Y and Z.
-pub fn say_xyz(rt: &impl Print, p: Xyz) -> Result<()> {
-    say(rt, b"XYZ ")?;
-    say_float(rt, p.x)?;
-    say(rt, b" ")?;
-    say_float(rt, p.y)?;
-    say(rt, b" ")?;
-    say_float(rt, p.z)
-}
-
-// Writes a refusal.
-pub fn say_refusal(rt: &impl Print, number: u32, block: u32) -> Result<()> {
-    say(rt, b"refused ")?;
-    say_size(rt, number)?;
-    say(rt, b" block ")?;
-    say_size(rt, block)
+pub fn say_xyz(rt: &impl Print, p: Xyz) -> io::Result<()> {
+    let (x, y, z) = (bits_of(p.x), bits_of(p.y), bits_of(p.z));
+    print!(rt; "XYZ {x:016x} {y:016x} {z:016x}")
 }
 
 // Writes an answer without its flag.
-fn say_floats(rt: &impl Print, a: Answer) -> Result<()> {
+fn say_floats(rt: &impl Print, a: Answer) -> io::Result<()> {
     match a {
         Answer::Gray(g) => {
-            say(rt, b"Gray ")?;
-            say_float(rt, g)
+            let g = bits_of(g);
+            print!(rt; "Gray {g:016x}")
         }
         Answer::Rgb(r, g, b) => {
-            say(rt, b"RGB ")?;
-            say_float(rt, r)?;
-            say(rt, b" ")?;
-            say_float(rt, g)?;
-            say(rt, b" ")?;
-            say_float(rt, b)
+            let (r, g, b) = (bits_of(r), bits_of(g), bits_of(b));
+            print!(rt; "RGB {r:016x} {g:016x} {b:016x}")
         }
         Answer::Cmyk(c, m, y, k) => {
-            say(rt, b"CMYK ")?;
-            say_float(rt, c)?;
-            say(rt, b" ")?;
-            say_float(rt, m)?;
-            say(rt, b" ")?;
-            say_float(rt, y)?;
-            say(rt, b" ")?;
-            say_float(rt, k)
+            let (c, m, y, k) = (bits_of(c), bits_of(m), bits_of(y), bits_of(k));
+            print!(rt; "CMYK {c:016x} {m:016x} {y:016x} {k:016x}")
         }
         Answer::Xyz(p) => say_xyz(rt, p),
         Answer::NoMark => say(rt, b"NoMark"),
         Answer::EveryInk(t) => {
-            say(rt, b"EveryInk ")?;
-            say_float(rt, t)
+            let t = bits_of(t);
+            print!(rt; "EveryInk {t:016x}")
         }
-        Answer::Refused { number, block } => say_refusal(rt, number, block),
+        Answer::Refused(refused) => print!(rt; "{refused}"),
     }
 }
 
-// Whether there is an answer, and no refusal.
-fn is_answer(a: Answer) -> bool {
-    match a {
-        Answer::Gray(_) => true,
-        Answer::Rgb(_, _, _) => true,
-        Answer::Cmyk(_, _, _, _) => true,
-        Answer::Xyz(_) => true,
-        Answer::NoMark => true,
-        Answer::EveryInk(_) => true,
-        Answer::Refused {
-            number: _,
-            block: _,
-        } => false,
-    }
-}
-
-// Writes an answer, and whether a limit moved anything on the way to it.
-pub fn say_answer(rt: &impl Print, r: Answered) -> Result<()> {
-    let moved = r.moved;
-    let a = r.answer;
-    say_floats(rt, a)?;
-    if moved & is_answer(a) {
-        return say(rt, b" moved");
+// Writes an answer, and whether a limit moved anything on the way to it, or a refusal.
+pub fn say_answer(rt: &impl Print, r: Answered) -> io::Result<()> {
+    say_floats(rt, r.answer)?;
+    if r.moved && !matches!(r.answer, Answer::Refused(_)) {
+        say(rt, b" moved")?;
     }
     Ok(())
 }

@@ -1,11 +1,13 @@
 -- The blocks that a closing bracket stores one after the other, and their brackets, are those of the definition.
 use mathlib.Core.Path.{◌≡◌, refl, sym, ap, ◌∙◌}
 use mathlib.Core.List.{List, ◌++◌, append_assoc, append-nil}
-use Prim.Native.Nat.{ℕ, zero, suc, ◌+◌, ◌-◌, ◌*◌, ◌≤◌}
+use mathlib.Core.Logic.{⊎_elim}
+use Prim.Native.Nat.{ℕ, zero, suc, ◌+◌, ◌-◌, ◌*◌, ◌≤◌, ◌<◌, min}
 use native.Mathlib.Omega.{arith}
 use borrow.Rule.Slice.PartMut.{put_mid, Post-is}
-use lib.ListN.{length, take, drop, replicate, length-append, length-replicate, take-append-drop}
-use lib.Seq.{sets, sets-eq, take_at, drop_at, drop-drop, length-take-le}
+use lib.ListN.{length, take, drop, drop_of_length-le, length-drop, replicate, length-append, length-replicate, take-append-drop}
+use lib.Seq.{sets, sets-eq, take_at, drop_at, drop-drop, length-take-le, take_all}
+use Rattle.reader.proofs.Rooms.{split}
 use Rattle.layout.specs.Field.{written}
 use Rattle.layout.proofs.Fields.{written-length}
 use Rattle.record.specs.declared.types.Record.{Record}
@@ -57,6 +59,14 @@ after-part d w v a n m {x} {y} h l e f =
     let dy : drop (a + n + m) x ≡ drop (a + n + m) d = sym (drop-drop m (a + n) x) ∙ ap (drop m) dx ∙ drop-drop m (a + n) d in
     f ∙ (λ i. tx i ++ (v ++ dy i)) ∙ append_assoc (take a d) w (v ++ drop (a + n + m) d)
     ∙ ap (λ (t : List ℕ). take a d ++ t) (sym (append_assoc w v (drop (a + n + m) d)))
+
+-- what is left of a list from the n-th on, of which there may be none
+pub drop_least : (p : List ℕ) (n k : ℕ) → k ≡ min (length p) n → take (length p - k) (drop k p) ≡ drop n p
+drop_least p n k e =
+    take_all (length p - k) (drop k p) (omega (arith, length-drop k p))
+    ∙ ⊎_elim (λ (h : n < length p). ap (λ (m : ℕ). drop m p) (let f : k ≡ n = omega arith in f))
+    (λ (h : length p ≤ n). drop_of_length-le p {i = k} (omega arith) ∙ sym (drop_of_length-le p {i = n} h))
+    (split n (length p))
 
 -- a turn of the palette's loop, and its start
 pub run-turn : (d w : List ℕ) (own j : ℕ) {x y : List ℕ} {r : Record} → 512 * own ≤ length d

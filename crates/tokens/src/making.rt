@@ -16,20 +16,17 @@ fn put_block(blocks: &mut [u8], n: usize, r: Record)
     ensures { blocks.new ≡ take (512 * n) blocks.old ++ (block_of r ++ drop (512 * n + 512) blocks.old) }
 {
     let a = 512 * n;
-    let e = 512 * n + 512;
-    block::put_record(r, &mut blocks[a..e]);
+    block::put_record(r, &mut blocks[a..a + 512]);
 }
 
-// Stores a palette of n bytes in k blocks from number own on.
-fn put_run(blocks: &mut [u8], own: usize, k: usize, word: &[u8], n: usize)
-    requires { (own + k ≤ most) × ((length blocks.old ≡ 512 * most) × (n ≤ length word.now)) }
-    ensures { blocks.new ≡ take (512 * own) blocks.old ++ (run_of own k (take n word.now) ++ drop (512 * (own + k)) blocks.old) }
+// Stores a palette in k blocks from number own on.
+fn put_run(blocks: &mut [u8], own: usize, k: usize, palette: &[u8])
+    requires { (own + k ≤ most) × (length blocks.old ≡ 512 * most) }
+    ensures { blocks.new ≡ take (512 * own) blocks.old ++ (run_of own k palette.now ++ drop (512 * (own + k)) blocks.old) }
 {
-    let mut j: usize = 0;
-    while j < k {
-        let r = making::palette_of(word, own + j, 504 * j, n);
-        put_block(blocks, own + j, r);
-        j += 1;
+    for j in 0..k {
+        let part = &palette[palette.len().min(504 * j)..];
+        put_block(blocks, own + j, making::palette_of(part, own + j));
     }
 }
 
@@ -51,10 +48,10 @@ pub fn make(
     ensures { made_at (h.next + (1 + k)) opens.new blocks.new ≡ made_with (parser_at h values.now marks.now names.now opens.old blocks.old) (scan_at l word.now).word }
 {
     let next = h.next as usize;
-    let n = making::held(word, l.size);
+    let palette = making::held(word, l.size);
     let r = making::record_of(h, values, names);
     let at = frames::start_of(marks, frames::slot(h.top), frames::depth(h.deep));
     put_block(blocks, next, r);
-    put_run(blocks, next + 1, k, word, n);
+    put_run(blocks, next + 1, k, palette);
     making::put_opens(opens, next, 1 + k, at);
 }

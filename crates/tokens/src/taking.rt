@@ -6,10 +6,13 @@ ghost use Rattle.reader.specs.Tokens.{took};
 ghost use Rattle.tokens.specs.Sizes.{Sizes};
 
 use crate::closing::take_shut;
+use fixed::Refusal;
 use lexer::{Lexer, Token};
-use reader::{Head, Took, Want, dictionary, heads, opening};
+use reader::{Head, Want, dictionary, heads, opening};
 
 // What a token comes to.
+// Kept: the lists are parameters. A struct of `&mut` would have each contract say of each list that it is the same one, of its length, and what of it stays.
+#[tactic(auto, unfolding(reader::specs::Tokens::took, reader::specs::Tokens::took_by))]
 pub fn take_token(
     h: Head,
     l: Lexer,
@@ -21,14 +24,13 @@ pub fn take_token(
     names: &mut [u8],
     opens: &mut [u32],
     blocks: &mut [u8],
-) -> Took
+) -> Result<Head, Refusal>
     requires { Sizes (length values.old) (length word.now) (length marks.old) (length names.old) (length opens.old) (length blocks.old) }
     ensures { took_at result values.new marks.new names.new opens.new blocks.new ≡ took room (parser_at h values.old marks.old names.old opens.old blocks.old) (scan_at l word.now) token }
 {
     let n = l.number;
     let t = heads::sort_of(token, n);
-    let w = h.want;
-    match w {
+    match h.want {
         Want::Top => opening::take_top(h, l, t, marks, names),
         Want::Family => opening::take_family(h, l, t, word),
         Want::Dict => dictionary::take_dict(h, t, values),

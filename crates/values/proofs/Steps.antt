@@ -1,30 +1,19 @@
 -- The steps on values, as the loops make them, and the page's rows and tints as steps of its tables.
 use mathlib.Core.Path.{◌≡◌, ap, ap₂, ◌∙◌, sym}
-use mathlib.Core.Bool.{Bool, ◌||◌}
+use mathlib.Core.Bool.{◌||◌}
 use mathlib.Core.List.{List}
 use Prim.Native.Nat.{ℕ, ◌+◌, ◌*◌, ◌≤◌}
 use native.Mathlib.Nat.{mul-le-mul}
-use native.Mathlib.Numerals.{add-one}
 use native.Mathlib.Omega.{arith}
 use lib.IntN.{ℤ, pos, nat_abs}
-use lib.ListN.{set, take}
+use lib.ListN.{take}
 use lib.Seq.{get_or-take}
 use Rattle.fixed.specs.Numbers.{limited, outside, round_index, tint_power, tint_value}
-use Rattle.fixed.specs.Values.{places, value, filled, limit_step, index_of, row_from, tint_of, tinted_by, tint_step}
+use Rattle.fixed.specs.Values.{places, value, filled, index_of, row_from, tint_of, tinted_by, tint_step}
 use Rattle.fixed.specs.declared.values.Colour.{Colour}
-use Rattle.fixed.proofs.Steps.{limit-made}
 use Rattle.fixed.proofs.Listed.{listed-value, filled-same, index_is, index-le, row_room}
-use Rattle.space.specs.Spaces.{Space, count_of, low_of, high_of}
+use Rattle.space.specs.Spaces.{Space, count_of}
 use Rattle.space.specs.Pages.{entries, entry_of, table_of}
-use Rattle.values.specs.Limits.{limited_to}
-
--- one more value limited: x is value k limited, and t whether that moved it
-pub limited-turn : (s : Space) (k : ℕ) (c : Colour) {u : List ℤ} {moved t : Bool} {x : ℤ} → ◌≡◌ {A = Colour} (record { values = u; moved = moved }) (limited_to s k c)
-    → x ≡ limited (low_of s k) (high_of s k) (value u k) → t ≡ outside (low_of s k) (high_of s k) (value u k)
-    → ◌≡◌ {A = Colour} (record { values = set u k x; moved = moved || t }) (limited_to s (k + 1) c)
-unfolding limited_to
-limited-turn s k c {u} {moved} e h f =
-    limit-made (record { values = u; moved = moved }) k (low_of s k) (high_of s k) h f ∙ ap (limit_step k (low_of s k) (high_of s k)) e ∙ rw add-one
 
 -- a row ends within the most entries that a table has
 pub few-rows : (i m h : ℕ) → i ≤ h → m ≤ places → h ≤ 65535 → i * m + m ≤ entries

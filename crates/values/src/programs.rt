@@ -8,6 +8,7 @@ use fixed::Colour;
 use form::{Tints, taken};
 
 // What the program after block n makes of its tints: a colour of the alternate space, of m components, not limited yet.
+#[tactic(auto, unfolding(calculator::specs::Calculator::code_after))]
 pub fn calculate(page: &[u8], n: u16, tints: Tints, m: u32, c: Colour) -> Colour
     ensures { result ≡ program_step (taken_by tints) m (code_after page.now n) c }
 {

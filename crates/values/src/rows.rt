@@ -7,68 +7,48 @@ ghost use Rattle.space.specs.Pages.{entries, entry_of, row_at};
 ghost use Rattle.space.specs.Levels.{space_in, Ranged};
 
 use fixed::{Colour, VALUES, index_of, over_one};
-use space::{Level, count, highs, lows};
+use space::{Bounds, Level, bounds_of, count};
 use tables::entry;
 
-// The m entries of a row of the table of the Indexed block n, over a space of m components, whose ranges are from lo to hi; `table` has the values over 0..1.
+// The m entries of a row of the table of the Indexed block n, over a space of m components, whose ranges have these bounds; `table` has the values over 0..1.
 fn fill_row(
     page: &[u8],
     table: &[u32],
     n: u16,
     m: u32,
-    lo: [i32; VALUES],
-    hi: [i32; VALUES],
+    bounds: Bounds,
     row: u32,
     v: [i32; VALUES],
 ) -> [i32; VALUES]
     requires { (row * m + m ≤ entries) × (m ≤ places) × OverOne table.now }
-    ensures { (s : Space) → Ranged s m lo hi → result ≡ filled (λ k. entry_of page.now n s (row * m + k)) m v }
+    ensures { (s : Space) → Ranged s m bounds.lo bounds.hi → result ≡ filled (λ k. entry_of page.now n s (row * m + k)) m v }
 {
-    let at = row * m;
-    let mut u = v;
-    let mut k: u32 = 0;
-    while k < m {
-        let i = k as usize;
-        let x = entry(page, table, n, i, lo, hi, at + k);
-        u[i] = x;
-        k += 1;
+    let mut values = v;
+    for k in 0..m {
+        values[k as usize] = entry(page, table, n, k as usize, bounds, row * m + k);
     }
-    u
+    values
 }
 
 // The same. The values over 0..1 are made where the first range ends at 1: a Lab's does not, and has no use for them.
-fn row_of(
-    page: &[u8],
-    n: u16,
-    m: u32,
-    lo: [i32; VALUES],
-    hi: [i32; VALUES],
-    row: u32,
-    v: [i32; VALUES],
-) -> [i32; VALUES]
+#[tactic(auto, unfolding(fixed::specs::Numbers::OverOne))]
+fn row_of(page: &[u8], n: u16, m: u32, bounds: Bounds, row: u32, v: [i32; VALUES]) -> [i32; VALUES]
     requires { (row * m + m ≤ entries) × (m ≤ places) }
-    ensures { (s : Space) → Ranged s m lo hi → result ≡ filled (λ k. entry_of page.now n s (row * m + k)) m v }
+    ensures { (s : Space) → Ranged s m bounds.lo bounds.hi → result ≡ filled (λ k. entry_of page.now n s (row * m + k)) m v }
 {
-    if hi[0] == 1000000 {
-        let table = over_one();
-        return fill_row(page, &table, n, m, lo, hi, row, v);
+    if bounds.hi[0] == 1000000 {
+        return fill_row(page, &over_one(), n, m, bounds, row, v);
     }
-    let none = [0u32; 1];
-    fill_row(page, &none[..0], n, m, lo, hi, row, v)
+    fill_row(page, &[], n, m, bounds, row, v)
 }
 
 // The row of the palette of the Indexed block n that value 0 picks: a colour of its base s.
 pub fn pick_row(page: &[u8], n: u16, hival: u16, s: Level, c: Colour) -> Colour
     ensures { result ≡ row_at page.now n hival (space_in page.now s) c }
 {
-    let moved = c.moved;
-    let v = c.values;
-    let x = v[0];
-    let m = count(s);
-    let index = index_of(x, hival as u32);
-    let u = row_of(page, n, m, lows(s), highs(s), index.row, v);
+    let index = index_of(c.values[0], hival as u32);
     Colour {
-        values: u,
-        moved: moved | index.outside,
+        values: row_of(page, n, count(s), bounds_of(s), index.row, c.values),
+        moved: c.moved | index.outside,
     }
 }

@@ -8,18 +8,16 @@ use fixed::{Colour, VALUES, is_outside, tint_power, tint_value, unit_part};
 use record::{Separation, entries_of};
 
 // The first m components of the alternate space, q millionths of the way from C0 to C1.
+#[tactic(auto, unfolding(fixed::specs::Values::filled))]
 fn fill_tint(c0: [i32; 4], c1: [i32; 4], m: u32, q: u32, v: [i32; VALUES]) -> [i32; VALUES]
     requires { (m ≤ widest) × (q ≤ 1000000) }
     ensures { result ≡ filled (λ k. tint_value (value c0 k) (value c1 k) q) m v }
 {
-    let mut u = v;
-    let mut k: usize = 0;
-    while k < m as usize {
-        let x = tint_value(c0[k], c1[k], q);
-        u[k] = x;
-        k += 1;
+    let mut values = v;
+    for k in 0..m as usize {
+        values[k] = tint_value(c0[k], c1[k], q);
     }
-    u
+    values
 }
 
 // What value 0 tints: a colour of the alternate space, of m components, not limited yet.
@@ -27,15 +25,10 @@ pub fn tint(p: Separation, m: u32, c: Colour) -> Colour
     requires { m ≤ widest }
     ensures { result ≡ tint_step p.exponent m (entries_of p.c0) (entries_of p.c1) c }
 {
-    let moved = c.moved;
-    let v = c.values;
-    let t = v[0];
-    let c0 = p.c0;
-    let c1 = p.c1;
+    let t = c.values[0];
     let q = tint_power(unit_part(t), p.exponent as u32);
-    let u = fill_tint(entries_of(c0), entries_of(c1), m, q, v);
     Colour {
-        values: u,
-        moved: moved | is_outside(t, 0, 1000000),
+        values: fill_tint(entries_of(p.c0), entries_of(p.c1), m, q, c.values),
+        moved: c.moved | is_outside(t, 0, 1000000),
     }
 }

@@ -1,5 +1,4 @@
 -- `is_zero_from` scans: the numbers below k pass.
-use Prim.Native.Nat.{◌-◌}
 use lib.Dec.{eqb}
 use Rattle.fixed.proofs.Scans.{Passing}
 use Rattle.c_records.specs.Records.{small}
@@ -7,6 +6,3 @@ use Rattle.c_records.proofs.records.is_zero_from.Given as goal
 
 abbrev pub invariant-loop-k : goal.invariant-loop-k
 invariant-loop-k l = Passing (λ j. eqb (small l.v j) 0) l.from 20 l.k
-
-abbrev pub decreases-loop-k : goal.decreases-loop-k
-decreases-loop-k l = 20 - l.k

@@ -1,18 +1,20 @@
-use mathlib.Core.Path.{refl}
-use native.Mathlib.Omega.{arith}
-use Rattle.calculator.proofs.Turns.{tidy-turn, tidy-stop, tidy-end}
+-- All bytes from the first zero on are zero.
+use mathlib.Core.Path.{ap, ◌∙◌}
+use Prim.Native.Nat.{ℕ}
+use borrow.Author.Rules.{rules}
+use lib.Dec.{eqb}
+use lib.ListN.{drop}
+use Rattle.std.proofs.Common.{tests}
+use Rattle.std.specs.List.{list_all}
+use Rattle.std.proofs.lemmas.List.{take_rest}
+use Rattle.std.proofs.lemmas.Iterator.{YieldsList-from_slice}
+use Rattle.std.proofs.lemmas.Iterator.Search.{all_from_yields_List}
+use Rattle.calculator.proofs.Turns.{tidy-end}
 use Rattle.calculator.proofs.filling.is_tidy.Goals as goal
 
-pub loop-i-init : goal.loop-i-init
-loop-i-init c = (omega arith, refl)
-
-pub returns-then-met-z : goal.returns-then-met-z
-returns-then-met-z c =
-    tidy-stop _ c.args.text.now c.loop-i.i _ _ c.loop-i-test.true refl c.if-met-z.true c.loop-i.invariant.1
-
-pub loop-i-preserved : goal.loop-i-preserved
-loop-i-preserved c =
-    (omega arith, tidy-turn _ c.args.text.now c.loop-i.i _ _ c.loop-i-test.true refl c.if-met-z.false c.loop-i.invariant.1)
-
 pub returns : goal.returns
-returns c = tidy-end _ c.args.text.now c.loop-i.i _ (omega arith) c.loop-i.invariant.1
+returns c =
+    let l = drop c.text_end.result c.args.text.now in
+    let rest = take_rest c.args.text.now c.text_end.result in
+    all_from_yields_List (λ b. eqb b 0) _ _ c.all.result c.all.ensures.ran (YieldsList-from_slice l cc) (λ x b q k. search (rules, tests))
+    ∙ (ap (λ (n : ℕ). list_all (λ b. eqb b 0) (drop n c.args.text.now)) c.text_end.ensures.is ∙ tidy-end c.args.text.now)

@@ -1,7 +1,7 @@
 -- What the values answer: by the level within, whose rank is lower, or by the closing step of a plain space.
 use mathlib.Core.Path.{ap, ◌∙◌}
 use native.Mathlib.Omega.{arith}
-use Rattle.fixed.proofs.Signs.{signed-within}
+use borrow.Author.Rules.{rules}
 use Rattle.cie.specs.Closings.{closed_by}
 use Rattle.cie.proofs.Closes.{closes}
 use Rattle.space.specs.Levels.{plain_in, rank_in}
@@ -26,11 +26,11 @@ value_in-requires-in-Indexed t c = (omega (arith, ap rank_in c.in-Indexed.is, c.
 
 pub returns-in-Plain : goal.returns-in-Plain
 returns-in-Plain t c =
-    let m = c.limit_count.ensures.is ∙ (whatever c.in-Plain.q c.in-Plain.c).2 in
-    c.close-answer.ensures _ ∙
-    closes _ c.limit_all-u.result.values _ (signed-within _ c.close-arg-1.given) (signed-within _ c.close-arg-in-Plain-1.given) (signed-within _ c.close-arg-in-Plain-2-1.given) (signed-within _ c.close-arg-in-Plain-3-1.given) ∙
-    value-plain _ _ c.in-Plain.c c.in-Plain.q c.in-Plain.is m
-    (c.limit_all-u.ensures (plain_in c.in-Plain.c c.in-Plain.q) (record { low = c.plain_lows.ensures; high = c.plain_highs.ensures }))
+    let p = c.in-Plain in
+    let m = c.limit_count.ensures.is ∙ (whatever p.q p.c).2 in
+    c.close.ensures _ ∙
+    closes _ c.limit_all-u.result.values _ (search rules) (search rules) (search rules) (search rules) ∙
+    value-plain _ _ p.c p.q p.is m (c.limit_all-u.ensures (plain_in p.c p.q) c.plain_bounds.ensures)
 
 pub returns-in-Blank : goal.returns-in-Blank
 unfolding closed_by

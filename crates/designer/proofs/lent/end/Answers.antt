@@ -1,5 +1,7 @@
 -- `end`: of the right lengths the last token is ended, the state saved and the text judged; of others it is 10, and nothing is altered.
-use mathlib.Core.Path.{refl, sym, ◌∙◌}
+use mathlib.Core.Path.{refl, sym, ap, ◌∙◌}
+use Prim.Native.Nat.{ℕ}
+use Rattle.std.specs.Prelude.{Err}
 use lib.ListN.{length}
 use Rattle.designer.specs.Lent.{memory}
 use Rattle.designer.proofs.Lending.{sized-words, sized-lists, end-foreign, ends_foreign, end-stands, ends-stands}
@@ -9,7 +11,7 @@ pub returns-then-not-is_sized : goal.returns-then-not-is_sized
 returns-then-not-is_sized c =
     let m = memory c.args.words.now c.args.values.now c.args.word.now c.args.marks.now c.args.names.now c.args.opens.now c.args.blocks.now in
     let room = c.args.room.now in
-    let other = sym c.is_sized.ensures ∙ c.if-not-is_sized.true in (record { replies = (ends_foreign m other (length room) room).0; writes = (ends_foreign m other (length room) room).1; leaves = end-foreign m other (length room) })
+    let other = sym c.is_sized.ensures ∙ c.if-not-is_sized.true in (record { replies = ap (λ (n : ℕ). Err (record { number = n; at = 0 })) c.number-number.ensures ∙ (ends_foreign m other (length room) room).0; writes = (ends_foreign m other (length room) room).1; leaves = end-foreign m other (length room) })
 
 pub finish-t-requires : goal.finish-t-requires
 finish-t-requires c = sized-lists _ _ _ _ _ _ _ (sym c.is_sized.ensures ∙ c.if-not-is_sized.false)

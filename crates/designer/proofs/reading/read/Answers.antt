@@ -9,8 +9,8 @@ loop-t-init c = (c.requires, refl)
 pub find-f-requires : goal.find-f-requires
 find-f-requires c = c.loop-t.invariant.0.w
 
-pub hand-u-requires : goal.hand-u-requires
-hand-u-requires c =
+pub hand-t-requires : goal.hand-t-requires
+hand-t-requires c =
     record { v = c.loop-t.invariant.0.v; w = c.word-1.given ∙ c.loop-t.invariant.0.w; m = c.loop-t.invariant.0.m; n = c.loop-t.invariant.0.n; o = c.loop-t.invariant.0.o; p = c.loop-t.invariant.0.p }
 
 pub shape_of-values-then-not-is_complete : goal.shape_of-values-then-not-is_complete
@@ -33,16 +33,16 @@ shape_of-blocks-then-not-is_complete c = c.blocks-1.given ∙ c.loop-t.invariant
 
 pub returns-then-not-is_complete : goal.returns-then-not-is_complete
 returns-then-not-is_complete c =
-    part-last c.args.room c.loop-t.t c.loop-t.values c.loop-t.word c.loop-t.marks c.loop-t.names c.loop-t.opens c.loop-t.blocks c.args.text.now c.loop-t.i c.find-f.result _ c.loop-t-test.true c.find-f.ensures c.hand-u.ensures.is (sym c.is_complete.ensures ∙ c.if-not-is_complete.true) ∙ c.loop-t.invariant.1
+    part-last c.args.room c.loop-t.t c.loop-t.values c.loop-t.word c.loop-t.marks c.loop-t.names c.loop-t.opens c.loop-t.blocks c.args.text.now c.loop-t.i c.find-f.result _ c.loop-t-test.true c.find-f.ensures c.hand-t.ensures.is (sym c.is_complete.ensures ∙ c.if-not-is_complete.true) ∙ c.loop-t.invariant.1
 
 pub loop-t-smaller : goal.loop-t-smaller
 loop-t-smaller c =
-    turn-less c.loop-t.t.lexer c.loop-t.word _ c.args.text.now c.loop-t.i c.find-f.result _ c.find-f.ensures (sym c.is_complete.ensures ∙ c.if-not-is_complete.false) c.hand-u.ensures.stays
+    turn-less c.loop-t.t.lexer c.loop-t.word _ c.args.text.now c.loop-t.i c.find-f.result _ c.find-f.ensures (sym c.is_complete.ensures ∙ c.if-not-is_complete.false) c.hand-t.ensures.stays
 
 pub loop-t-preserved : goal.loop-t-preserved
 loop-t-preserved c = (
   record { v = c.values-1.given ∙ c.loop-t.invariant.0.v; w = c.word-1.given ∙ c.loop-t.invariant.0.w; m = c.marks-1.given ∙ c.loop-t.invariant.0.m; n = c.names-1.given ∙ c.loop-t.invariant.0.n; o = c.opens-1.given ∙ c.loop-t.invariant.0.o; p = c.blocks-1.given ∙ c.loop-t.invariant.0.p },
-  part-turn c.args.room c.loop-t.t c.loop-t.values c.loop-t.word c.loop-t.marks c.loop-t.names c.loop-t.opens c.loop-t.blocks c.args.text.now c.loop-t.i c.find-f.result _ c.loop-t-test.true c.find-f.ensures c.hand-u.ensures.is ∙ c.loop-t.invariant.1,
+  part-turn c.args.room c.loop-t.t c.loop-t.values c.loop-t.word c.loop-t.marks c.loop-t.names c.loop-t.opens c.loop-t.blocks c.args.text.now c.loop-t.i c.find-f.result _ c.loop-t-test.true c.find-f.ensures c.hand-t.ensures.is ∙ c.loop-t.invariant.1,
 )
 
 pub shape_of-values : goal.shape_of-values

@@ -17,14 +17,17 @@ quotient v u e =
     subst (λ (n : ℕ). Diff (half_up v 1000000) n 2148) (halves (u + 516352) ∙ ap (λ (n : ℕ). n / 1000000) from)
     (half_at 1000000 2148 (lit< tt) (shift (of_eq u (2 ^ 31) e) (omega arith)))
 
-pub returns-then-n-lt2148 : goal.returns-then-n-lt2148
+pub returns-in-None : goal.returns-in-None
 unfolding index_outside
-returns-then-n-lt2148 c = low c.args.hival (quotient _ c.raised-u.result (sym (signed_back c.ranges.v) ∙ c.raised-u.ensures.1)) (omega arith)
+returns-in-None c = low c.args.hival (quotient _ c.raised-u.result (sym (signed_back c.ranges.v) ∙ c.raised-u.ensures.1)) (omega (arith, c.in-None.ensures))
 
-pub returns-then-hival-row : goal.returns-then-hival-row
+pub returns-in-Some : goal.returns-in-Some
 unfolding index_outside
-returns-then-hival-row c = high c.args.hival (quotient _ c.raised-u.result (sym (signed_back c.ranges.v) ∙ c.raised-u.ensures.1)) (omega arith)
+returns-in-Some c =
+    rw c.in-Some.ensures.1
+    (mid c.args.hival (quotient _ c.raised-u.result (sym (signed_back c.ranges.v) ∙ c.raised-u.ensures.1)) (omega (arith, c.in-Some.ensures)) (omega (arith, c.in-Some.ensures)))
 
-pub returns : goal.returns
+pub returns-in-Some-2 : goal.returns-in-Some-2
 unfolding index_outside
-returns c = mid c.args.hival (quotient _ c.raised-u.result (sym (signed_back c.ranges.v) ∙ c.raised-u.ensures.1)) (omega arith) (omega arith)
+returns-in-Some-2 c =
+    high c.args.hival (quotient _ c.raised-u.result (sym (signed_back c.ranges.v) ∙ c.raised-u.ensures.1)) (omega (arith, c.in-Some.ensures))

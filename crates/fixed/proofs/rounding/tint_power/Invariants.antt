@@ -4,8 +4,5 @@ use Prim.Native.Nat.{◌≤◌, ◌-◌, ◌+◌}
 use Rattle.fixed.specs.Numbers.{tint_power}
 use Rattle.fixed.proofs.rounding.tint_power.Given as goal
 
-abbrev pub invariant-loop-i : goal.invariant-loop-i
-invariant-loop-i l = (l.q ≡ tint_power l.x l.i) × (l.q ≤ 1000000) × (1 ≤ l.i) × (l.i ≤ (l.exponent - 1) + 1)
-
-abbrev pub decreases-loop-i : goal.decreases-loop-i
-decreases-loop-i l = l.exponent - l.i
+abbrev pub invariant-loop : goal.invariant-loop
+invariant-loop l = (l.q ≡ tint_power l.x l.counter) × (l.q ≤ 1000000) × (l.counter ≤ (l.exponent - 1) + 1)

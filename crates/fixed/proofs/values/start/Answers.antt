@@ -8,18 +8,15 @@ use Rattle.fixed.proofs.values.start.Goals as goal
 
 pub loop-k-init : goal.loop-k-init
 unfolding filled
-loop-k-init c = (omega arith, refl)
-
-pub loop-k-smaller : goal.loop-k-smaller
-loop-k-smaller c = omega arith
+loop-k-init c = refl
 
 pub loop-k-preserved : goal.loop-k-preserved
 loop-k-preserved c =
-    (omega arith, filled-turn (value c.args.components.now) _ _ c.loop-k.invariant.1 (signed_is _ c.value_at-x.type_inv c.value_at-x.ensures))
+    filled-turn (value c.args.components.now) _ _ c.loop-k.invariant (signed_is _ c.value_at.type_inv c.value_at.ensures)
 
 pub returns : goal.returns
 unfolding filled listed
 returns c =
     let e : c.loop-k.k ≡ places = omega arith in
-    let all : c.loop-k.v ≡ given places c.args.components.now = c.loop-k.invariant.1 ∙ rw e in
+    let all : c.loop-k.value-items ≡ given places c.args.components.now = c.loop-k.invariant ∙ rw e in
     λ i. record { values = all i; moved = false }

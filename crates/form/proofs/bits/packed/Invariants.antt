@@ -7,7 +7,4 @@ use Rattle.form.proofs.Tables.{twice}
 use Rattle.form.proofs.bits.packed.Given as goal
 
 abbrev pub invariant-loop-i : goal.invariant-loop-i
-invariant-loop-i l = (l.from ≤ l.i) × (l.i ≤ l.to) × (l.v < twice (l.to - l.i)) × (kinds_up l.v (l.to - l.i) (bits_of (stack_of l.a l.i)) ≡ bits_of (stack_of l.a l.to))
-
-abbrev pub decreases-loop-i : goal.decreases-loop-i
-decreases-loop-i l = l.i - l.from
+invariant-loop-i l = (l.from ≤ l.i) × (l.bits < twice (l.to - l.i)) × (kinds_up l.bits (l.to - l.i) (bits_of (stack_of l.kinds l.i)) ≡ bits_of (stack_of l.kinds l.to))

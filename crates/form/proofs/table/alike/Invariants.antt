@@ -1,13 +1,9 @@
--- From the top downward: all above i are alike.
+-- From the top downward: the first n are alike.
 use mathlib.Core.Path.{◌≡◌}
-use Prim.Native.Nat.{◌≤◌}
-use Rattle.stack.specs.Memory.{stack_of}
+use lib.ListN.{drop}
 use Rattle.stack.specs.Stack.{same_kinds}
 use Rattle.form.specs.Table.{bits_of}
 use Rattle.form.proofs.table.alike.Given as goal
 
-abbrev pub invariant-loop-i : goal.invariant-loop-i
-invariant-loop-i l = (l.i ≤ l.h) × (same_kinds (bits_of (stack_of l.a l.i)) (stack_of l.b l.i) ≡ same_kinds (bits_of (stack_of l.a l.h)) (stack_of l.b l.h))
-
-abbrev pub decreases-loop-i : goal.decreases-loop-i
-decreases-loop-i l = l.i
+abbrev pub invariant-loop-n : goal.invariant-loop-n
+invariant-loop-n l = same_kinds (bits_of (drop l.n l.a)) (drop l.n l.b) ≡ same_kinds (bits_of l.a) l.b

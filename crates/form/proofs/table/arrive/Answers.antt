@@ -1,25 +1,24 @@
 -- Each return is a case of `comes`: past the end, a place not met, one met with the same height, or another.
-use mathlib.Core.Path.{◌≡◌, ◌∙◌, sym}
+use mathlib.Core.Path.{◌∙◌, sym, ap}
 use mathlib.Core.Bool.{false}
-use native.Mathlib.Omega.{arith}
-use Prim.Native.Nat.{◌+◌, ◌-◌}
-use Rattle.stack.specs.Memory.{stack_of}
-use Rattle.form.specs.Table.{bits_of, head_at}
-use Rattle.form.proofs.Tables.{come-past, come-new, come-old, low-stored, same-high}
+use Prim.Native.Nat.{ℕ}
+use Rattle.stack.specs.Stack.{same_kinds}
+use Rattle.form.specs.Table.{bits_of, kinds_at}
+use Rattle.form.proofs.Tables.{come-past, come-new, come-old, same-high}
 use Rattle.form.proofs.table.arrive.Goals as goal
 
-pub returns-then-n-q : goal.returns-then-n-q
-returns-then-n-q c =
-    record { is = come-past c.args.t.now c.args.n c.args.q (bits_of (stack_of c.args.a.now c.args.h)) c.if-n-q.true; low = c.requires.3 }
+pub returns-then-n-q-clause-is : goal.returns-then-n-q-clause-is
+returns-then-n-q-clause-is c = come-past c.args.t.now c.args.n c.args.q (bits_of c.args.stack.now) c.if-n-q.true
 
-pub returns-then-c-eq0 : goal.returns-then-c-eq0
-returns-then-c-eq0 c =
-    record { is = come-new c.args.t.now c.args.n c.args.q (bits_of (stack_of c.args.a.now c.args.h)) c.if-n-q.false (sym c.head-c.ensures ∙ c.if-c-eq0.true) c.requires.3 _ c.store.ensures; low = low-stored c.args.t.now _ c.args.q (bits_of (stack_of c.args.a.now c.args.h)) c.store.ensures c.requires.3 }
+pub returns-in-None-clause-is : goal.returns-in-None-clause-is
+returns-in-None-clause-is c = come-new c.args.t.now c.args.n c.args.q (bits_of c.args.stack.now) c.if-n-q.false c.in-None.ensures c.requires.1 _ c.store.ensures
 
-pub returns-then-c-h : goal.returns-then-c-h
-returns-then-c-h c =
-    record { is = come-old c.args.t.now c.args.n c.args.q (bits_of (stack_of c.args.a.now c.args.h)) c.if-n-q.false c.args.h (sym c.head-c.ensures ∙ c.if-c-h.true) c.same.result c.same.ensures; low = c.requires.3 }
+pub returns-in-Some-clause-is : goal.returns-in-Some-clause-is
+returns-in-Some-clause-is c =
+    come-old c.args.t.now c.args.n c.args.q (bits_of c.args.stack.now) c.if-n-q.false c.in-Some.h c.in-Some.ensures c.same.result
+    (c.same.ensures ∙ ap (λ (h : ℕ). same_kinds (bits_of c.args.stack.now) (kinds_at c.args.t.now c.args.q h)) (sym (c.if-h-height.true ∙ c.height.ensures.is)))
 
-pub returns : goal.returns
-returns c =
-    let y : head_at c.args.t.now c.args.q ≡ c.head-c.result - 1 + 1 = omega (arith, c.head-c.ensures, c.if-c-eq0.false) in (record { is = come-old c.args.t.now c.args.n c.args.q (bits_of (stack_of c.args.a.now c.args.h)) c.if-n-q.false (c.head-c.result - 1) y false (sym (same-high c.args.t.now c.args.q c.args.h (c.head-c.result - 1) c.args.a.now (λ e. c.if-c-h.false (omega (arith, c.if-c-eq0.false))))); low = c.requires.3 })
+pub returns-in-Some-2-clause-is : goal.returns-in-Some-2-clause-is
+returns-in-Some-2-clause-is c =
+    come-old c.args.t.now c.args.n c.args.q (bits_of c.args.stack.now) c.if-n-q.false c.in-Some.h c.in-Some.ensures false
+    (sym (same-high c.args.t.now c.args.q c.in-Some.h c.args.stack.now (λ e. c.if-h-height.false (e ∙ sym c.height.ensures.is))))

@@ -22,9 +22,6 @@ returns-then-is_ink c =
     let yes = sym (mark-yes _ (sym c.is_ink.ensures ∙ c.if-is_ink.true)) in
     clean-stop _ _ _ _ _ 1 c.loop-i.invariant c.loop-i-test.true yes (λ z. omega arith)
 
-pub overflow_add-i : goal.overflow_add-i
-overflow_add-i c = omega (arith, sized-most _ (well-sized _ c.requires))
-
 pub loop-i-preserved : goal.loop-i-preserved
 loop-i-preserved c =
     let no = sym (mark-no _ (sym c.is_ink.ensures ∙ c.if-is_ink.false)) in

@@ -1,19 +1,16 @@
--- `find`: what validation finds of the job's page is given, and only where it is accepted is the house page looked at.
-use mathlib.Core.Path.{sym, ap, ◌∙◌}
-use Rattle.page.specs.Outcomes.{meaning as judged}
+-- `find`: what validation finds of each page is given, and only where both are accepted is the ink looked for.
 use Rattle.ink_names.specs.Search.{found_ink}
 use Rattle.ink_names.proofs.Found.{past-accepted, at-refused}
 use Rattle.inks.proofs.asking.find.Goals as goal
 
-pub find_beside-requires : goal.find_beside-requires
-find_beside-requires c = sym c.validate.ensures ∙ ap judged c.in-Accepted.is
-
-pub returns-in-Accepted : goal.returns-in-Accepted
+pub returns-in-Err : goal.returns-in-Err
 unfolding found_ink
-returns-in-Accepted c =
-    past-accepted _ _ _ (sym (ap judged c.in-Accepted.is) ∙ c.validate.ensures) c.find_beside.ensures
+returns-in-Err c = at-refused _ _ _ c.in-Err.ensures
 
-pub returns-in-Refused : goal.returns-in-Refused
+pub returns-in-Err-validate : goal.returns-in-Err-validate
 unfolding found_ink
-returns-in-Refused c =
-    c.refused.ensures ∙ at-refused _ _ _ (sym (ap judged c.in-Refused.is) ∙ c.validate.ensures)
+returns-in-Err-validate c = past-accepted _ _ _ c.in_default.ensures (at-refused _ _ _ c.in-Err-validate.ensures)
+
+pub returns : goal.returns
+unfolding found_ink
+returns c = past-accepted _ _ _ c.in_default.ensures (past-accepted _ _ _ c.in_default-validate.ensures c.find_in_both.ensures)

@@ -1,27 +1,19 @@
-use Rattle.layout.specs.Field.{puts, padded}
-use Rattle.layout.proofs.Puts.{copied}
-use mathlib.Core.Path.{◌≡◌, refl, ap, ◌∙◌}
-use Prim.Native.Nat.{ℕ}
-use native.Mathlib.Omega.{arith}
+-- `put_run`: a run that is copied is stored.
+use mathlib.Core.Path.{◌≡◌, sym, ap, ◌∙◌}
+use mathlib.Core.List.{List}
+use Prim.Native.Nat.{ℕ, ◌+◌}
 use lib.ListN.{length}
-use lib.Seq.{sets, length-sets}
+use lib.Seq.{sets}
+use Rattle.fixed.proofs.Stores.{copied}
+use Rattle.layout.specs.Field.{puts, padded}
+use Rattle.layout.proofs.Held.{length-padded}
+use Rattle.layout.proofs.Puts.{padded-take}
 use Rattle.layout.proofs.store.put_run.Goals as goal
-
-pub loop-i-init : goal.loop-i-init
-unfolding padded
-loop-i-init c = (omega arith, refl)
-
-pub bounds-out-at : goal.bounds-out-at
-bounds-out-at c = simp (c.loop-i.invariant.1, length-sets) (omega arith)
-
-pub loop-i-preserved : goal.loop-i-preserved
-loop-i-preserved c = (omega arith, copied _ _ _ _ c.loop-i.invariant.1)
-
-pub shape_of-out : goal.shape_of-out
-shape_of-out c = ap length c.loop-i.invariant.1 ∙ simp length-sets
 
 pub returns : goal.returns
 unfolding puts
 returns c =
-    let e : c.loop-i.i ≡ c.args.n = omega arith in
-    c.loop-i.invariant.1 ∙ ap (λ (k : ℕ). sets c.args.out.now c.args.at (padded k c.args.s.now)) e
+    let s = c.args in
+    let e : c.copy_from_slice.new.self ≡ padded s.n s.s.now = c.copy_from_slice.ensures.after ∙ sym (padded-take s.n s.s.now c.requires.0) in
+    let long : s.at + length c.copy_from_slice.new.self ≡ s.at + s.n = ap (λ (l : List ℕ). s.at + length l) e ∙ ap (λ (k : ℕ). s.at + k) (length-padded s.n s.s.now) in
+    copied c.copy_from_slice.new.self s.out.now s.at (s.at + s.n) long c.requires.1 ∙ ap (sets s.out.now s.at) e

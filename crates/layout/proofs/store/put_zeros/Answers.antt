@@ -1,26 +1,19 @@
-use Rattle.layout.specs.Field.{puts}
-use Rattle.layout.proofs.Puts.{zero_turn}
+-- `put_zeros`: zeros that are filled in are stored.
 use mathlib.Core.Path.{◌≡◌, ap, ◌∙◌}
+use mathlib.Core.List.{List}
 use Prim.Native.Nat.{ℕ, ◌-◌}
 use native.Mathlib.Omega.{arith}
-use lib.ListN.{length, replicate}
-use lib.Seq.{sets, length-sets}
+use lib.ListN.{length, drop, replicate, length-replicate, length-drop}
+use lib.Seq.{sets, length-take-le}
+use Rattle.fixed.proofs.Stores.{copied}
+use Rattle.layout.specs.Field.{puts}
 use Rattle.layout.proofs.store.put_zeros.Goals as goal
-
-pub loop-i-init : goal.loop-i-init
-loop-i-init c = (omega arith, omega arith, let e : c.args.at - c.args.at ≡ 0 = omega arith in rw e)
-
-pub bounds-out-i : goal.bounds-out-i
-bounds-out-i c = simp (c.loop-i.invariant.2, length-sets) (omega arith)
-
-pub loop-i-preserved : goal.loop-i-preserved
-loop-i-preserved c = (omega arith, omega arith, zero_turn _ _ _ _ c.loop-i.invariant.0 c.loop-i.invariant.2)
-
-pub shape_of-out : goal.shape_of-out
-shape_of-out c = ap length c.loop-i.invariant.2 ∙ simp length-sets
 
 pub returns : goal.returns
 unfolding puts
 returns c =
-    let e : c.loop-i.i ≡ c.args.to = omega arith in
-    c.loop-i.invariant.2 ∙ ap (λ (k : ℕ). sets c.args.out.now c.args.at (replicate (k - c.args.at) 0)) e
+    let s = c.args in
+    let n = s.to - s.at in
+    let e : c.fill.new.self ≡ replicate n 0 = c.fill.ensures.after (λ y h. h) ∙ ap (λ (k : ℕ). replicate k 0) (length-take-le n (drop s.at s.out.now) (simp length-drop (omega arith))) in
+    let long : length c.fill.new.self ≡ n = ap (λ (l : List ℕ). length l) e ∙ length-replicate n 0 in
+    copied c.fill.new.self s.out.now s.at s.to (omega arith) c.requires.1 ∙ ap (sets s.out.now s.at) e

@@ -1,15 +1,17 @@
--- The four bytes of a number's bits are stored.
-use mathlib.Core.Path.{ap, ◌∙◌}
-use Prim.Native.Nat.{ℕ}
+-- The bytes of a number's bits, copied in.
+use mathlib.Core.Path.{◌≡◌, ap, ◌∙◌}
+use lib.ListN.{length}
 use lib.Seq.{sets}
 use mir.Syntax.{w32}
 use mir.ValLaws.{to_z-of_z}
-use Rattle.fixed.specs.Bytes.{bits, four_bytes}
+use mathlib.Core.List.{List}
+use Prim.Native.Nat.{ℕ, ◌+◌}
+use Rattle.fixed.specs.Bytes.{number_bytes, four_bytes}
+use Rattle.fixed.proofs.Stores.{copied}
 use Rattle.octets.proofs.bytes.put_number.Goals as goal
 
 pub returns : goal.returns
+unfolding four_bytes
 returns c =
-    let at-put-four = c.before.before in
-    let at-of-signed = at-put-four.before in
-    let start = at-of-signed.before.before.before in
-    at-put-four.put_four.ensures ∙ ap (λ (n : ℕ). sets start.args.out.now start.args.at (four_bytes n)) (at-of-signed.of_signed.ensures ∙ ap bits (to_z-of_z w32 _ start.ranges.v))
+    let e : c.copy_from_slice.new.self ≡ number_bytes c.args.v = c.copy_from_slice.ensures.after ∙ c.to_be_bytes.ensures ∙ ap number_bytes (to_z-of_z w32 _ c.ranges.v) in
+    copied _ _ c.args.at (c.args.at + 4) (ap (λ (l : List ℕ). c.args.at + length l) e) c.requires ∙ ap (sets c.args.out.now c.args.at) e

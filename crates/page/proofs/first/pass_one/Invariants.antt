@@ -1,5 +1,4 @@
 -- The first pass: blocks below i have no fault.
-use Prim.Native.Nat.{◌-◌}
 use Rattle.fixed.proofs.Scans.{Clean}
 use Rattle.page.specs.Outcomes.{accepted, refused}
 use Rattle.page.specs.Validation.{fault_one}
@@ -7,6 +6,3 @@ use Rattle.page.proofs.first.pass_one.Given as goal
 
 abbrev pub invariant-loop-i : goal.invariant-loop-i
 invariant-loop-i l = Clean accepted refused (fault_one l.page) l.n l.i
-
-abbrev pub decreases-loop-i : goal.decreases-loop-i
-decreases-loop-i l = l.n - l.i

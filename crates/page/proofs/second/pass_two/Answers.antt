@@ -3,6 +3,7 @@ use mathlib.Core.List.{List}
 use native.Mathlib.Numerals.{add-one}
 use Prim.Native.Nat.{ℕ, ◌+◌}
 use Rattle.fixed.specs.Bytes.{block_at}
+use Rattle.fixed.proofs.Numbered.{some_number}
 use Rattle.fixed.proofs.Scans.{clean-start, clean-turn, clean-stop, clean_end}
 use Rattle.record.specs.Reading.{body_at}
 use Rattle.record.specs.declared.types.Body.{Body}
@@ -24,14 +25,15 @@ pub loop-i-init : goal.loop-i-init
 unfolding claimed_at
 loop-i-init c = record { clean = clean-start _ _ _ _; claimed-is = refl }
 
-pub returns-then-number-ne0 : goal.returns-then-number-ne0
-returns-then-number-ne0 c =
-    clean-stop _ _ _ _ _ _ c.loop-i.invariant.clean c.loop-i-test.true (fault-is _ _ _ _ c.body_at-y.ensures c.loop-i.invariant.claimed-is c.fault_claimed-number.ensures) c.if-number-ne0.true
+pub returns-in-Err : goal.returns-in-Err
+returns-in-Err c =
+    let fault = fault-is _ _ _ _ c.body_at-y.ensures c.loop-i.invariant.claimed-is c.in-Err.ensures in
+    rw (c.of_block.ensures.is, c.of_block.ensures.about) (clean-stop _ _ _ _ _ _ c.loop-i.invariant.clean c.loop-i-test.true fault (some_number c.in-Err.refusal))
 
 pub loop-i-preserved : goal.loop-i-preserved
 loop-i-preserved c =
     record {
-      clean = clean-turn _ _ _ _ _ _ c.loop-i.invariant.clean c.loop-i-test.true (fault-is _ _ _ _ c.body_at-y.ensures c.loop-i.invariant.claimed-is c.fault_claimed-number.ensures) c.if-number-ne0.false;
+      clean = clean-turn _ _ _ _ _ _ c.loop-i.invariant.clean c.loop-i-test.true (fault-is _ _ _ _ c.body_at-y.ensures c.loop-i.invariant.claimed-is c.in_default.ensures) refl;
       claimed-is = claimed-next _ _ _ _ c.body_at-y.ensures c.loop-i.invariant.claimed-is c.claimed_after-claimed.ensures;
     }
 

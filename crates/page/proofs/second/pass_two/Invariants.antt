@@ -1,7 +1,7 @@
 -- The second pass: blocks below i have no fault, and `claimed` is what the last Indexed block, or Separation with a program, before i still claims.
 use mathlib.Core.Path.{◌≡◌}
 use mathlib.Core.List.{List}
-use Prim.Native.Nat.{ℕ, ◌-◌}
+use Prim.Native.Nat.{ℕ}
 use Rattle.fixed.proofs.Scans.{Clean}
 use Rattle.page.specs.Outcomes.{accepted, refused}
 use Rattle.runs.specs.Runs.{claimed_at}
@@ -14,6 +14,3 @@ pub record At (page : List ℕ) (n i claimed : ℕ) : Type 0 where
 
 abbrev pub invariant-loop-i : goal.invariant-loop-i
 invariant-loop-i l = At l.page l.n l.i l.claimed
-
-abbrev pub decreases-loop-i : goal.decreases-loop-i
-decreases-loop-i l = l.n - l.i

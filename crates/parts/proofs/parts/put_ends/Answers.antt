@@ -20,4 +20,4 @@ pub returns : goal.returns
 returns c =
     let m = c.limit_count-m.ensures.is ∙ (whatever c.args.q c.args.c).2 in
     let s = plain_in c.args.c c.args.q in
-    ends_set s _ _ m (closing-is c.args.c c.args.q) _ _ _ _ (c.put_limits.ensures s (record { low = c.plain_lows.ensures; high = c.plain_highs.ensures })) c.put_closing.ensures
+    ends_set s _ _ m (closing-is c.args.c c.args.q) _ _ _ _ (c.put_limits.ensures s c.plain_bounds.ensures) c.put_closing.ensures

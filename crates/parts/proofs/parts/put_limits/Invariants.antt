@@ -1,6 +1,5 @@
--- The loop's invariant: the limits of k components are stored, those of every space that lo and hi are the ranges of.
+-- The loop's invariant: the limits of k components are stored, those of every space that has these bounds.
 use mathlib.Core.Path.{◌≡◌}
-use Prim.Native.Nat.{◌≤◌, ◌-◌}
 use lib.ListN.{length}
 use lib.Seq.{sets}
 use Rattle.space.specs.Spaces.{Space}
@@ -9,7 +8,7 @@ use Rattle.parts.specs.Recipes.{limits_of}
 use Rattle.parts.proofs.parts.put_limits.Given as goal
 
 abbrev pub invariant-loop-k : goal.invariant-loop-k
-invariant-loop-k l = (l.k ≤ l.m) × (length l.words ≡ length l.initial.words) × ((s : Space) → Ends s l.lo l.hi → l.words ≡ sets l.initial.words l.at (limits_of s l.k))
-
-abbrev pub decreases-loop-k : goal.decreases-loop-k
-decreases-loop-k l = l.m - l.k
+invariant-loop-k l = record {
+  room : length l.words ≡ length l.initial.words;
+  stored : (s : Space) → Ends s l.bounds.lo l.bounds.hi → l.words ≡ sets l.initial.words l.at (limits_of s l.k);
+}

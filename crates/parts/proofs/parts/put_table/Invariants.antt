@@ -1,6 +1,6 @@
--- The loop's invariant: the first j entries are stored, over every space that lo and hi are the ranges of, and k is the component of the next one.
+-- The loop's invariant: the first j entries are stored, over every space that has these bounds, and k is the component of the next one.
 use mathlib.Core.Path.{◌≡◌}
-use Prim.Native.Nat.{◌≤◌, ◌<◌, ◌-◌, ◌%◌}
+use Prim.Native.Nat.{◌<◌, ◌%◌}
 use lib.ListN.{length}
 use lib.Seq.{sets}
 use Rattle.fixed.specs.Values.{listed}
@@ -10,7 +10,9 @@ use Rattle.space.specs.Levels.{Ranged}
 use Rattle.parts.proofs.parts.put_table.Given as goal
 
 abbrev pub invariant-loop-j : goal.invariant-loop-j
-invariant-loop-j l = (l.j ≤ l.size) × (length l.words ≡ length l.initial.words) × ((s : Space) → Ranged s l.m l.lo l.hi → l.words ≡ sets l.initial.words l.at (listed (entry_of l.page l.n s) l.j)) × (l.k < l.m) × (l.k ≡ l.j % l.m)
-
-abbrev pub decreases-loop-j : goal.decreases-loop-j
-decreases-loop-j l = l.size - l.j
+invariant-loop-j l = record {
+  room : length l.words ≡ length l.initial.words;
+  stored : (s : Space) → Ranged s l.m l.bounds.lo l.bounds.hi → l.words ≡ sets l.initial.words l.at (listed (entry_of l.page l.n s) l.j);
+  low : l.k < l.m;
+  component : l.k ≡ l.j % l.m;
+}

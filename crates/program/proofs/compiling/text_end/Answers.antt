@@ -1,17 +1,16 @@
-use mathlib.Core.Path.{refl}
-use native.Mathlib.Omega.{arith}
-use Rattle.symbols.proofs.Lexed.{zero-goes, zero-stops, zero-ends}
+use mathlib.Core.Path.{◌∙◌}
+use mathlib.Core.Bool.{not}
+use Prim.Native.Nat.{ℕ}
+use borrow.Author.Rules.{rules}
+use Rattle.std.proofs.Common.{tests}
+use Rattle.std.proofs.lemmas.Iterator.{YieldsList-from_slice}
+use Rattle.std.proofs.lemmas.Iterator.Search.{position_from_yields_List}
+use Rattle.std.proofs.lemmas.List.Sums.{prefix_len-le-length}
+use Rattle.symbols.proofs.Lexed.{or_length}
+use lib.Dec.{eqb}
 use Rattle.program.proofs.compiling.text_end.Goals as goal
 
-pub loop-i-init : goal.loop-i-init
-loop-i-init c = record { same = refl; in! = omega arith }
-
-pub returns-then-bytes-i-eq0 : goal.returns-then-bytes-i-eq0
-returns-then-bytes-i-eq0 c =
-    (zero-stops _ _ c.loop-i.invariant c.loop-i-test.true c.if-bytes-i-eq0.true, c.loop-i.invariant.in!)
-
-pub loop-i-preserved : goal.loop-i-preserved
-loop-i-preserved c = zero-goes _ _ c.loop-i.invariant c.loop-i-test.true c.if-bytes-i-eq0.false
-
-pub returns : goal.returns
-returns c = (zero-ends _ _ c.loop-i.invariant c.loop-i-test.false, c.loop-i.invariant.in!)
+pub returns-clause-is : goal.returns-clause-is
+returns-clause-is c =
+    let p = position_from_yields_List (λ b. eqb b 0) _ _ c.position.result c.position.ensures.ran (YieldsList-from_slice c.args.bytes.now cc) (λ x b q k. search (rules, tests)) in
+    c.unwrap_or.ensures ∙ (rw p (or_length _ _ (prefix_len-le-length {X = ℕ} (λ b. not (eqb b 0)) c.args.bytes.now)))

@@ -1,27 +1,22 @@
-use lib.ListN.{length-set, take, set}
-use Prim.Native.Nat.{ℕ, ◌+◌, ◌*◌}
-use mathlib.Core.Path.{◌≡◌, refl, ap, ◌∙◌}
+-- The length, and then the bytes: `name-put` of Rings.
+use mathlib.Core.Path.{◌≡◌, sym, ap, ◌∙◌}
+use mathlib.Core.List.{List}
 use native.Mathlib.Omega.{arith}
-use lib.Seq.{sets, length-take-le}
-use Rattle.reader.specs.Kept.{frames_at}
-use Rattle.reader.proofs.Rings.{name-turn, name-put}
-use borrow.Author.Rules.{rules}
+use lib.ListN.{length, length-set, take, set}
+use lib.Seq.{length-take-le}
+use Prim.Native.Nat.{ℕ, suc, ◌+◌, ◌-◌, ◌*◌, ◌≤◌}
+use Rattle.reader.specs.Kept.{ring, frames_at}
+use Rattle.reader.proofs.Rings.{name-put}
+use Rattle.reader.proofs.Rooms.{put-sets}
 use Rattle.reader.proofs.frames.name_slot.Goals as goal
 
-pub loop-i-init : goal.loop-i-init
-loop-i-init c = (omega arith, (length-set c.args.names.now _ _ ∙ c.requires.1.0, refl))
-
-pub loop-i-preserved : goal.loop-i-preserved
-loop-i-preserved c =
-    let loop = c.loop-i in
-    let args = c.args in
-    (omega arith, (search rules, name-turn _ _ args.word.now loop.i (omega arith) loop.invariant.1.1))
-
 pub returns : goal.returns
-returns c =
-    let loop = c.loop-i in
-    let args = c.args in
-    let pre = c.requires in
-    λ marks k h. let e : loop.i ≡ args.n = omega arith in ap (λ (l : _). frames_at marks l args.x _) (loop.invariant.1.1 ∙ ap (λ
-    (j : ℕ). sets (set args.names.now (128 * args.x) args.n) (128 * args.x + 1) (take j args.word.now)) e) ∙ name-put args.names.now (take args.n args.word.now) args.x args.n (omega arith) (length-take-le args.n args.word.now
-    (omega arith)) pre.1.0 pre.0 marks k h
+returns c = λ marks k h.
+    let a = c.args in
+    let names = a.names.now in
+    let size : length (take a.n a.word.now) ≡ a.n = length-take-le a.n a.word.now (omega arith) in
+    let wide : length (set names (128 * a.x) a.n) ≡ 128 * ring = length-set names (128 * a.x) a.n ∙ c.requires.1.0 in
+    ap (λ (l : List ℕ). frames_at marks l a.x (suc k))
+    (put-sets (set names (128 * a.x) a.n) (128 * a.x + 1) (128 * a.x + 1 + a.n - (128 * a.x + 1)) c.copy_from_slice.ensures.after (omega (arith, size))
+    (omega (arith, wide)))
+    ∙ name-put names (take a.n a.word.now) a.x a.n (omega arith) size c.requires.1.0 c.requires.0 marks k h

@@ -1,24 +1,17 @@
-use Prim.Native.Nat.{ℕ}
-use mathlib.Core.Path.{◌≡◌, refl, ap, ◌∙◌}
+-- The part that is filled holds so many of the bracket.
+use mathlib.Core.Path.{◌≡◌, sym, ap, ◌∙◌}
 use native.Mathlib.Omega.{arith}
-use lib.ListN.{replicate}
-use lib.Seq.{sets}
-use Rattle.reader.proofs.Rooms.{opens-turn}
-use borrow.Author.Rules.{rules}
+use Prim.Native.Nat.{ℕ, ◌+◌, ◌-◌}
+use lib.ListN.{length, take, drop, length-drop, length-replicate, replicate}
+use lib.Seq.{length-take-le}
+use Rattle.reader.proofs.Rooms.{put-sets}
 use Rattle.reader.proofs.making.put_opens.Goals as goal
-
-pub loop-j-init : goal.loop-j-init
-loop-j-init c = (omega arith, (refl, refl))
-
-pub loop-j-preserved : goal.loop-j-preserved
-loop-j-preserved c =
-    let loop = c.loop-j in
-    let args = c.args in
-    (omega arith, (search rules, opens-turn args.opens.now args.own loop.j args.at loop.invariant.1.1))
 
 pub returns : goal.returns
 returns c =
-    let loop = c.loop-j in
-    let args = c.args in
-    let e : loop.j ≡ args.k = omega arith in loop.invariant.1.1 ∙ ap (λ (n : ℕ). sets args.opens.now args.own (replicate n
-    args.at)) e
+    let a = c.args in
+    let opens = a.opens.now in
+    let k = a.own + a.k - a.own in
+    let rest = length-drop a.own opens in
+    let size : length (take k (drop a.own opens)) ≡ a.k = length-take-le k (drop a.own opens) (omega (arith, rest, c.requires)) ∙ (let e : k ≡ a.k = omega arith in e) in
+    put-sets opens a.own k (c.fill.ensures.after (λ y e. e) ∙ ap (λ (n : ℕ). replicate n a.at) size) (omega (arith, length-replicate {A = ℕ} a.k a.at)) (omega (arith, c.requires))

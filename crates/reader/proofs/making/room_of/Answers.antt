@@ -1,30 +1,19 @@
-use Prim.Native.Nat.{ℕ}
-use mathlib.Core.Path.{◌≡◌, refl, ap, ◌∙◌}
+-- As many bytes as there are, or as there is room for: `room_filled` of Rooms.
+use mathlib.Core.Path.{ap, ◌∙◌}
+use mathlib.Core.List.{List, ◌++◌}
+use mathlib.Core.Logic.{inl, inr, ⊎_elim}
 use native.Mathlib.Omega.{arith}
-use lib.ListN.{take, drop}
-use Rattle.layout.specs.Field.{padded}
-use Rattle.reader.proofs.Rooms.{room-turn, room-rest, padded-take}
+use Prim.Native.Nat.{ℕ, ◌≤◌, ◌<◌}
+use lib.ListN.{length, drop, replicate}
+use Rattle.keys.proofs.Masks.{split}
+use Rattle.reader.proofs.Rooms.{room_filled}
 use Rattle.reader.proofs.making.room_of.Goals as goal
-use Rattle.reader.proofs.making.room_of.Goals.{then-from-i, else-from-i}
-
-pub loop-i-init : goal.loop-i-init
-unfolding padded
-loop-i-init c = (omega arith, refl)
-
-pub loop-i-preserved : goal.loop-i-preserved
-loop-i-preserved c =
-    let loop = c.loop-i in
-    let args = c.args in
-    let pre = c.requires in (
-      omega arith,
-      elim c.if-from-i.branch [
-        | then-from-i w ↦ w.bytes-is ∙ room-turn args.s.now args.from args.to pre.0 loop.i (omega arith) w.if-from-i.true loop.invariant.1
-        | else-from-i w ↦ w.bytes-is ∙ room-rest args.s.now args.from args.to pre.0 loop.i w.if-from-i.false loop.invariant.1
-      ],
-    )
 
 pub returns : goal.returns
 returns c =
-    let loop = c.loop-i in
-    let args = c.args in
-    let e : loop.i ≡ 504 = omega arith in loop.invariant.1 ∙ ap (λ (k : ℕ). padded 504 (take k (drop args.from (take args.to args.s.now)))) e ∙ padded-take 504 (drop args.from (take args.to args.s.now))
+    let s = c.args.s.now in
+    let n = c.min-n.result in
+    let m = c.min-n.ensures in
+    ap (λ (l : List ℕ). l ++ drop n (replicate 504 0)) c.copy_from_slice.ensures.after
+    ∙ room_filled 504 n s (omega (arith, m)) (omega (arith, m))
+    (⊎_elim (λ (h : 504 < length s). inr (omega (arith, m))) (λ (h : length s ≤ 504). inl (omega (arith, m))) (split 504 (length s)))

@@ -19,12 +19,16 @@ moved d e h = h ∙ ap (λ (x : Space). sets d 1 (steps_of x)) e
 
 pub returns-then-m-eq0 : goal.returns-then-m-eq0
 returns-then-m-eq0 c =
-    let m = space-read _ _ c.level_at-l.ensures count_of (c.count-m.ensures.is _) in record { result_value = (reply-none _ _ _ m c.if-m-eq0.true).0; words_after = (reply-none _ _ _ m c.if-m-eq0.true).1 }
+    let m = space-read _ _ c.level_at-l.ensures count_of (c.count-m.ensures.is _) in
+    let both = reply-none _ _ _ m c.if-m-eq0.true in
+    rw (c.of_block.ensures.is, c.of_block.ensures.about) (record { result_value = both.0; words_after = both.1 })
 
 pub returns-then-words-size : goal.returns-then-words-size
 returns-then-words-size c =
     let m = space-read _ _ c.level_at-l.ensures count_of (c.count-m.ensures.is _) in
-    let r = space-read _ _ c.level_at-l.ensures words_of c.words_in-size.ensures.is ∙ sym (length_at c.args.page.now c.args.n) in record { result_value = (reply-short _ _ _ m c.if-m-eq0.false _ r c.if-words-size.true).0; words_after = (reply-short _ _ _ m c.if-m-eq0.false _ r c.if-words-size.true).1 }
+    let r = space-read _ _ c.level_at-l.ensures words_of c.words_in-size.ensures.is ∙ sym (length_at c.args.page.now c.args.n) in
+    let both = reply-short _ _ _ m c.if-m-eq0.false _ r c.if-words-size.true in
+    rw (c.of_block-then-words-size.ensures.is, c.of_block-then-words-size.ensures.about) (record { result_value = both.0; words_after = both.1 })
 
 pub bounds-words-0 : goal.bounds-words-0
 unfolding recipe_of
@@ -42,9 +46,7 @@ shape_of-words c = c.put_steps.auto.words ∙ simp length-set
 pub returns : goal.returns
 returns c =
     let m = space-read _ _ c.level_at-l.ensures count_of (c.count-m.ensures.is _) in
-    let r = space-read _ _ c.level_at-l.ensures words_of c.words_in-size.ensures.is ∙ sym (length_at c.args.page.now c.args.n) in record {
-      result_value = (reply-words _ _ _ m c.if-m-eq0.false _ r _ _ (signed_is _ c.word_of.type_inv c.word_of.ensures) c.if-words-size.false
-          (moved _ (level-space _ _ c.level_at-l.ensures) c.put_steps.ensures)).0;
-      words_after = (reply-words _ _ _ m c.if-m-eq0.false _ r _ _ (signed_is _ c.word_of.type_inv c.word_of.ensures) c.if-words-size.false
-          (moved _ (level-space _ _ c.level_at-l.ensures) c.put_steps.ensures)).1;
-    }
+    let r = space-read _ _ c.level_at-l.ensures words_of c.words_in-size.ensures.is ∙ sym (length_at c.args.page.now c.args.n) in
+    let both = reply-words _ _ _ m c.if-m-eq0.false _ r _ _ (signed_is _ c.word_of.type_inv c.word_of.ensures) c.if-words-size.false
+    (moved _ (level-space _ _ c.level_at-l.ensures) c.put_steps.ensures) in
+    record { result_value = both.0; words_after = both.1 }

@@ -1,6 +1,5 @@
 -- `is_same_name` compares the lengths first, then scans.
-use mathlib.Core.Path.{◌≡◌}
-use Prim.Native.Nat.{ℕ, ◌+◌, ◌-◌}
+use Prim.Native.Nat.{ℕ, ◌+◌}
 use lib.Dec.{eqb}
 use lib.ListN.{get_or}
 use mathlib.Core.Bool.{Bool}
@@ -13,7 +12,4 @@ abbrev pub Same : List ℕ → ℕ → ℕ → ℕ → Bool
 Same s p q j = eqb (get_or s (p + 1 + j) 0) (get_or s (q + 1 + j) 0)
 
 abbrev pub invariant-loop-k : goal.invariant-loop-k
-invariant-loop-k l = (l.size ≡ get_or l.s l.p 0) × (l.size ≡ get_or l.s l.q 0) × Passing (Same l.s l.p l.q) 0 l.size l.k
-
-abbrev pub decreases-loop-k : goal.decreases-loop-k
-decreases-loop-k l = l.size - l.k
+invariant-loop-k l = Passing (Same l.s l.p l.q) 0 l.size l.k

@@ -1,21 +1,17 @@
 use mathlib.Core.Path.{sym, ◌∙◌}
-use native.Mathlib.Omega.{arith}
-use Rattle.fixed.proofs.Scans.{passing-start, passing-turn, passing-stop, passing-end}
+use Rattle.fixed.proofs.Scans.{passing-turn, passing-stop, passing-end}
 use Rattle.record.specs.Rules.{names_lawful}
 use Rattle.rules.proofs.naming.are_lawful.Goals as goal
-
-pub loop-k-init : goal.loop-k-init
-loop-k-init c = (omega arith, passing-start _ _ _)
 
 pub returns-then-not-is_fair : goal.returns-then-not-is_fair
 unfolding names_lawful
 returns-then-not-is_fair c =
-    passing-stop _ _ _ _ c.loop-k.invariant.1 c.loop-k-test.true (sym c.is_fair.ensures ∙ c.if-not-is_fair.true)
+    passing-stop _ _ _ _ c.loop-k.invariant c.loop-k-test.true (sym c.is_fair.ensures ∙ c.if-not-is_fair.true)
 
 pub loop-k-preserved : goal.loop-k-preserved
 loop-k-preserved c =
-    (omega arith, passing-turn _ _ _ _ c.loop-k.invariant.1 c.loop-k-test.true (sym c.is_fair.ensures ∙ c.if-not-is_fair.false))
+    passing-turn _ _ _ _ c.loop-k.invariant c.loop-k-test.true (sym c.is_fair.ensures ∙ c.if-not-is_fair.false)
 
 pub returns : goal.returns
 unfolding names_lawful
-returns c = passing-end _ _ _ _ c.loop-k.invariant.1 c.loop-k-test.false
+returns c = passing-end _ _ _ _ c.loop-k.invariant c.loop-k-test.false

@@ -2,7 +2,7 @@
 use mathlib.Core.Path.{◌≡◌, ap, ◌∙◌}
 use mathlib.Core.Bool.{Bool}
 use mathlib.Core.List.{List}
-use Prim.Native.Nat.{ℕ, ◌-◌, ◌≤◌}
+use Prim.Native.Nat.{ℕ}
 use Rattle.fixed.proofs.Scans.{Passing}
 use Rattle.record.specs.Reading.{name_place}
 use Rattle.record.specs.Rules.{name_fits_at}
@@ -16,7 +16,4 @@ pub fits : (s : List ℕ) (k : ℕ) {at : ℕ} {t : Bool} → at ≡ name_place 
 fits s k e f = f ∙ ap (name_fits_at s) e
 
 abbrev pub invariant-loop-k : goal.invariant-loop-k
-invariant-loop-k l = (l.k ≤ l.n) × Passing (Fits l.s) 0 l.n l.k
-
-abbrev pub decreases-loop-k : goal.decreases-loop-k
-decreases-loop-k l = l.n - l.k
+invariant-loop-k l = Passing (Fits l.s) 0 l.n l.k

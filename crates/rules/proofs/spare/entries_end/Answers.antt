@@ -23,18 +23,18 @@ loop-k-init c = passing-start _ _ _
 pub returns-then-not-is_zero : goal.returns-then-not-is_zero
 returns-then-not-is_zero c =
     let loop = c.loop-k in
-    let a = c.entries_of-a.result in
-    ends _ _ c.entries_of-a.ensures
+    let a = c.entries_of-entries.result in
+    ends _ _ c.entries_of-entries.ensures
     (passing-stop (Zero a) _ _ loop.k loop.invariant c.loop-k-test.true
     (ap is_zero (sym (signed-within (value a loop.k) c.is_zero-arg-1.given)) ∙ sym c.is_zero.ensures ∙ c.if-not-is_zero.true))
 
 pub loop-k-preserved : goal.loop-k-preserved
 loop-k-preserved c =
     let loop = c.loop-k in
-    let a = c.entries_of-a.result in
+    let a = c.entries_of-entries.result in
     passing-turn (Zero a) _ _ loop.k loop.invariant c.loop-k-test.true
     (ap is_zero (sym (signed-within (value a loop.k) c.is_zero-arg-1.given)) ∙ sym c.is_zero.ensures ∙ c.if-not-is_zero.false)
 
 pub returns : goal.returns
 returns c =
-    ends _ _ c.entries_of-a.ensures (passing-end (Zero c.entries_of-a.result) _ _ _ c.loop-k.invariant c.loop-k-test.false)
+    ends _ _ c.entries_of-entries.ensures (passing-end (Zero c.entries_of-entries.result) _ _ _ c.loop-k.invariant c.loop-k-test.false)

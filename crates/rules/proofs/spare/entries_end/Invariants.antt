@@ -1,7 +1,7 @@
--- `entries_end` scans: the entries from m to below k are zero.
+-- The entries from m to below k are zero.
 use mathlib.Core.Bool.{Bool}
 use mathlib.Core.List.{List}
-use Prim.Native.Nat.{ℕ, ◌-◌}
+use Prim.Native.Nat.{ℕ}
 use lib.IntN.{ℤ}
 use Rattle.fixed.specs.Values.{value}
 use Rattle.fixed.proofs.Scans.{Passing}
@@ -13,7 +13,4 @@ abbrev pub Zero : List ℤ → ℕ → Bool
 Zero a j = is_zero (value a j)
 
 abbrev pub invariant-loop-k : goal.invariant-loop-k
-invariant-loop-k l = Passing (Zero l.a) l.m 4 l.k
-
-abbrev pub decreases-loop-k : goal.decreases-loop-k
-decreases-loop-k l = 4 - l.k
+invariant-loop-k l = Passing (Zero l.entries) l.m 4 l.k

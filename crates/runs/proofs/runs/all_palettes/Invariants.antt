@@ -1,5 +1,4 @@
 -- `all_palettes` scans: the blocks below k pass.
-use Prim.Native.Nat.{◌-◌}
 use Rattle.fixed.proofs.Scans.{Passing}
 use Rattle.fixed.specs.Bytes.{block_at}
 use Rattle.record.specs.Reading.{body_at}
@@ -8,6 +7,3 @@ use Rattle.runs.proofs.runs.all_palettes.Given as goal
 
 abbrev pub invariant-loop-k : goal.invariant-loop-k
 invariant-loop-k l = Passing (λ j. is_palette (body_at (block_at l.page j))) l.from l.to l.k
-
-abbrev pub decreases-loop-k : goal.decreases-loop-k
-decreases-loop-k l = l.to - l.k

@@ -1,5 +1,5 @@
 -- `run_filled`: its scans are those of the definition, from the same block to the same and from the same byte on.
-use mathlib.Core.Path.{◌≡◌}
+use mathlib.Core.Path.{◌≡◌, refl, sym, ◌∙◌}
 use mathlib.Core.Bool.{Bool, ◌&&◌}
 use mathlib.Core.List.{List}
 use Prim.Native.Nat.{ℕ, ◌+◌, ◌-◌, ◌*◌}
@@ -14,6 +14,10 @@ both-held : (page : List ℕ) (i size n m : ℕ) {a b : Bool} → n ≡ run_leng
 unfolding run_filled
 both-held page i size n m e f g h = rw (g, h, f, e)
 
-pub returns : goal.returns
-returns c =
-    both-held _ _ _ _ _ c.run_length-n.ensures c.less.ensures c.all_palettes.ensures c.palette_ends.ensures
+pub returns-then-all_palettes : goal.returns-then-all_palettes
+returns-then-all_palettes c =
+    both-held _ _ _ _ _ c.run_length-n.ensures c.saturating_sub.ensures (sym c.if-all_palettes.true ∙ c.all_palettes.ensures) c.palette_ends.ensures
+
+pub returns-else-all_palettes : goal.returns-else-all_palettes
+returns-else-all_palettes c =
+    c.if-all_palettes.false ∙ both-held _ _ _ _ _ c.run_length-n.ensures c.saturating_sub.ensures (sym c.if-all_palettes.false ∙ c.all_palettes.ensures) refl

@@ -1,29 +1,21 @@
 -- `plain_at`: what it takes of a level is the space that the definition has.
-use mathlib.Core.Path.{refl, sym, ap, ◌∙◌}
+use mathlib.Core.Path.{◌≡◌, refl, sym, ap, ◌∙◌}
 use Rattle.fixed.proofs.Decide.{is-yes, is-no}
-use Rattle.space.proofs.Levels.{plain, plain-read}
+use Rattle.space.specs.Levels.{nothing}
+use Rattle.space.proofs.Levels.{plain, plain-read, plain_other}
 use Rattle.space.proofs.nesting.plain_at.Goals as goal
+use Rattle.space.proofs.nesting.plain_at.Goals.{in_default-via-in-Plain+else-not-is_named, in_default-via-in_default}
 
-pub returns-then-is_named : goal.returns-then-is_named
-returns-then-is_named c =
-    record { is = (plain-read _ _ c.level_at-l.ensures (is-yes _ _ _ _ c.is_named.ensures c.if-is_named.true c.nothing.ensures ∙ sym (ap plain c.in-Plain.is))).0; falls = (plain-read _ _ c.level_at-l.ensures (is-yes _ _ _ _ c.is_named.ensures c.if-is_named.true c.nothing.ensures ∙ sym (ap plain c.in-Plain.is))).1 }
+pub returns-in-Plain : goal.returns-in-Plain
+returns-in-Plain c =
+    let r = plain-read _ _ c.level_at-l.ensures (is-no _ _ _ _ c.is_named.ensures c.if-not-is_named.true refl ∙ sym (ap plain c.in-Plain.is)) in
+    record { is = r.0; falls = r.1 }
 
-pub returns-else-is_named : goal.returns-else-is_named
-returns-else-is_named c =
-    record { is = (plain-read _ _ c.level_at-l.ensures (is-no _ _ _ _ c.is_named.ensures c.if-is_named.false refl ∙ sym (ap plain c.in-Plain.is))).0; falls = (plain-read _ _ c.level_at-l.ensures (is-no _ _ _ _ c.is_named.ensures c.if-is_named.false refl ∙ sym (ap plain c.in-Plain.is))).1 }
-
-pub returns-in-Blank : goal.returns-in-Blank
-returns-in-Blank c =
-    record { is = (plain-read _ _ c.level_at-l.ensures (c.nothing-in-Blank.ensures ∙ sym (ap plain c.in-Blank.is))).0; falls = (plain-read _ _ c.level_at-l.ensures (c.nothing-in-Blank.ensures ∙ sym (ap plain c.in-Blank.is))).1 }
-
-pub returns-in-Separation : goal.returns-in-Separation
-returns-in-Separation c =
-    record { is = (plain-read _ _ c.level_at-l.ensures (c.nothing-in-Separation.ensures ∙ sym (ap plain c.in-Separation.is))).0; falls = (plain-read _ _ c.level_at-l.ensures (c.nothing-in-Separation.ensures ∙ sym (ap plain c.in-Separation.is))).1 }
-
-pub returns-in-Program : goal.returns-in-Program
-returns-in-Program c =
-    record { is = (plain-read _ _ c.level_at-l.ensures (c.nothing-in-Program.ensures ∙ sym (ap plain c.in-Program.is))).0; falls = (plain-read _ _ c.level_at-l.ensures (c.nothing-in-Program.ensures ∙ sym (ap plain c.in-Program.is))).1 }
-
-pub returns-in-Indexed : goal.returns-in-Indexed
-returns-in-Indexed c =
-    record { is = (plain-read _ _ c.level_at-l.ensures (c.nothing-in-Indexed.ensures ∙ sym (ap plain c.in-Indexed.is))).0; falls = (plain-read _ _ c.level_at-l.ensures (c.nothing-in-Indexed.ensures ∙ sym (ap plain c.in-Indexed.is))).1 }
+pub returns-in_default : goal.returns-in_default
+returns-in_default c =
+    let e : nothing ≡ plain c.level_at-l.result = elim c.in_default.branch [
+      | in_default-via-in-Plain+else-not-is_named w ↦ is-yes _ _ _ _ w.is_named.ensures w.if-not-is_named.false refl ∙ sym (ap plain w.in-Plain.is)
+      | in_default-via-in_default w ↦ plain_other _ w.in_default.not-Plain
+    ] in
+    let r = plain-read _ _ c.level_at-l.ensures (c.nothing.ensures ∙ e) in
+    record { is = r.0; falls = r.1 }

@@ -1,12 +1,15 @@
--- As `add`: a difference that is raised once more is never negative.
-use mathlib.Core.Path.{◌∙◌, sym}
-use native.Mathlib.Omega.{arith}
+-- The library's saturating operation.
+use mathlib.Core.Path.{◌∙◌}
+use lib.IntN.{◌-ℤ◌}
+use mir.Syntax.{w32}
+use Rattle.std.specs.Int.{saturate_signed}
 use Rattle.fixed.proofs.Signs.{signed_is, signed_back}
 use Rattle.stack.specs.Operators.{sum_of}
-use Rattle.stack.proofs.Fits.{difference-is}
+use Rattle.stack.proofs.Fits.{saturated}
 use Rattle.stack.proofs.numbers.sub.Goals as goal
 
 pub returns : goal.returns
 unfolding sum_of
 returns c =
-    signed_is c.fit.result c.fit.type_inv (c.fit.ensures ∙ difference-is c.raised-a.result c.raised-b.result c.args.x c.args.y (sym (signed_back c.ranges.x) ∙ c.raised-a.ensures.1) (sym (signed_back c.ranges.y) ∙ c.raised-b.ensures.1) (omega (arith, c.raised-b.ensures.0)))
+    let r = c.saturating_sub in
+    signed_is r.result r.type_inv (r.ensures ∙ (λ i. saturate_signed w32 (signed_back c.ranges.x i -ℤ signed_back c.ranges.y i)) ∙ saturated (c.args.x -ℤ c.args.y))

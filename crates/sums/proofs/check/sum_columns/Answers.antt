@@ -3,66 +3,57 @@ use native.Mathlib.Omega.{arith}
 use Rattle.sums.proofs.TwoSums.{aside, parts, parted}
 use Rattle.sums.proofs.check.sum_columns.Goals as goal
 
--- src/check.rt:84:5
 pub loop-k-init : goal.loop-k-init
 loop-k-init c = aside _
 
--- src/check.rt:89:9
 pub overflow_add-sum_high : goal.overflow_add-sum_high
 overflow_add-sum_high c =
     let loop = c.loop-k in
-    let rows = c.sum_rows-c in
+    let rows = c.sum_rows in
     let q = parts _ loop.k _ _ c.loop-k-test.true (rows.ensures.column loop.k c.loop-k-test.true) in
     omega (arith, loop.invariant.sh-most, q.high-most)
 
--- src/check.rt:91:9
 pub overflow_add-running_high : goal.overflow_add-running_high
 overflow_add-running_high c =
     let loop = c.loop-k in
-    let rows = c.sum_rows-c in
+    let rows = c.sum_rows in
     let q = parts _ loop.k _ _ c.loop-k-test.true (rows.ensures.column loop.k c.loop-k-test.true) in
     omega (arith, loop.invariant.rh-most, q.running-high-most)
 
--- src/check.rt:93:23
 pub overflow_mul-place_high : goal.overflow_mul-place_high
 overflow_mul-place_high c =
     let loop = c.loop-k in
-    let rows = c.sum_rows-c in
+    let rows = c.sum_rows in
     let q = parts _ loop.k _ _ c.loop-k-test.true (rows.ensures.column loop.k c.loop-k-test.true) in
     omega (arith, q.place-high-most)
 
--- src/check.rt:93:9
 pub overflow_add-place_high : goal.overflow_add-place_high
 overflow_add-place_high c =
     let loop = c.loop-k in
-    let rows = c.sum_rows-c in
+    let rows = c.sum_rows in
     let q = parts _ loop.k _ _ c.loop-k-test.true (rows.ensures.column loop.k c.loop-k-test.true) in
     omega (arith, loop.invariant.ph-most, q.place-high-most)
 
--- src/check.rt:94:22
 pub overflow_mul-place_low : goal.overflow_mul-place_low
 overflow_mul-place_low c =
     let loop = c.loop-k in
-    let rows = c.sum_rows-c in
+    let rows = c.sum_rows in
     let q = parts _ loop.k _ _ c.loop-k-test.true (rows.ensures.column loop.k c.loop-k-test.true) in
     omega (arith, q.place-low-most)
 
--- src/check.rt:94:9
 pub overflow_add-place_low : goal.overflow_add-place_low
 overflow_add-place_low c =
     let loop = c.loop-k in
-    let rows = c.sum_rows-c in
+    let rows = c.sum_rows in
     let q = parts _ loop.k _ _ c.loop-k-test.true (rows.ensures.column loop.k c.loop-k-test.true) in
     omega (arith, loop.invariant.pl-most, q.place-low-most)
 
--- src/check.rt:84:5
 pub loop-k-preserved : goal.loop-k-preserved
 loop-k-preserved c =
     let loop = c.loop-k in
-    let rows = c.sum_rows-c in
+    let rows = c.sum_rows in
     parted _ _ _ _ _ _ _ loop.k _ _ loop.invariant c.loop-k-test.true (rows.ensures.column loop.k c.loop-k-test.true)
 
--- src/check.rt:70:1
 pub returns : goal.returns
 returns c =
     let loop = c.loop-k in

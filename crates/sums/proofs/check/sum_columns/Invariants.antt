@@ -1,11 +1,8 @@
 -- `sum_columns` goes across the columns, with each sum and running in two parts.
-use Prim.Native.Nat.{◌-◌, ◌*◌}
+use Prim.Native.Nat.{◌*◌}
 use lib.ListN.{drop}
 use Rattle.sums.proofs.TwoSums.{Parted}
 use Rattle.sums.proofs.check.sum_columns.Given as goal
 
 abbrev pub invariant-loop-k : goal.invariant-loop-k
 invariant-loop-k l = Parted (drop (512 * l.n) l.page) l.sum_high l.sum_low l.running_high l.running_low l.place_high l.place_low l.k
-
-abbrev pub decreases-loop-k : goal.decreases-loop-k
-decreases-loop-k l = 32 - l.k

@@ -1,11 +1,8 @@
 -- `sum_rows` goes down the rows.
-use Prim.Native.Nat.{◌-◌, ◌*◌}
+use Prim.Native.Nat.{◌*◌}
 use lib.ListN.{drop}
 use Rattle.sums.specs.Columns.{DownAll}
 use Rattle.sums.proofs.check.sum_rows.Given as goal
 
 abbrev pub invariant-loop-row : goal.invariant-loop-row
 invariant-loop-row l = DownAll (drop (512 * l.n) l.page) l.c.sums l.c.runnings l.row
-
-abbrev pub decreases-loop-row : goal.decreases-loop-row
-decreases-loop-row l = 16 - l.row

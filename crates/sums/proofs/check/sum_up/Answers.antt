@@ -6,19 +6,16 @@ use Rattle.record.specs.Layout.{plain, weighed}
 use Rattle.sums.proofs.TwoSums.{settles}
 use Rattle.sums.proofs.check.sum_up.Goals as goal
 
--- src/check.rt:118:17
 pub overflow_sub-result : goal.overflow_sub-result
 overflow_sub-result c =
     let z = settles _ _ _ _ _ _ _ _ c.sum_columns-t.ensures c.byte_at-a.ensures.is c.byte_at-b.ensures.is c.byte_at-c.ensures.is c.byte_at-d.ensures.is in
     omega (arith, z.sum-least)
 
--- src/check.rt:119:19
 pub overflow_sub-result-2 : goal.overflow_sub-result-2
 overflow_sub-result-2 c =
     let z = settles _ _ _ _ _ _ _ _ c.sum_columns-t.ensures c.byte_at-a.ensures.is c.byte_at-b.ensures.is c.byte_at-c.ensures.is c.byte_at-d.ensures.is in
     omega (arith, z.over-least)
 
--- src/check.rt:108:1
 pub returns : goal.returns
 unfolding plain weighed
 returns c =

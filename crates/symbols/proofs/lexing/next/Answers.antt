@@ -1,20 +1,37 @@
 -- After what is skipped there is nothing, a run of regular characters, or a delimiter.
-use mathlib.Core.Path.{refl, sym, ◌∙◌}
-use mathlib.Core.Bool.{true, false, true≢false}
-use Prim.Native.Nat.{◌+◌}
+use mathlib.Core.Path.{◌≡◌, sym, ap, ◌∙◌}
+use mathlib.Core.Bool.{false}
+use mathlib.Core.List.{◌∷◌}
 use native.Mathlib.Omega.{arith}
-use lib.IntN.{pos}
-use Rattle.symbols.proofs.Lexed.{none-next, word_next, brace-next}
+use Prim.Native.Nat.{ℕ, ◌+◌}
+use lib.ListN.{length}
+use Rattle.symbols.specs.Tokens.{Token, gap, lexed}
+use Rattle.symbols.proofs.Lexed.{run_length, skipped-shorter, empty, run-taken, run-dropped, run-more, none-next, word-next, brace-next}
 use Rattle.symbols.proofs.lexing.next.Goals as goal
 
-pub returns-then-text-k : goal.returns-then-text-k
-returns-then-text-k c =
-    record { tokens = none-next c.args.text.now c.args.i c.skip-k.result c.skip-k.ensures.0 (record { found = false; code = 0; value = pos 0; at = c.skip-k.result }) c.if-text-k.true refl; on = λ z. absurd (true≢false (sym z)); in! = c.skip-k.ensures.2 }
+pub returns-in_err-b : goal.returns-in_err-b
+returns-in_err-b c =
+    rw c.from_residual.ensures
+    (record { tokens = none-next c.args.text.now (sym c.skip-text.ensures ∙ empty _ c.in_err-b.ensures.cases); shorter = tt })
 
 pub returns-then-is_regular : goal.returns-then-is_regular
 returns-then-is_regular c =
-    record { tokens = word_next c.args.text.now c.args.i c.skip-k.result c.skip-k.ensures.0 c.word_token.result c.if-text-k.false c.word_token.ensures.1 c.run_end-e.result (sym c.is_regular.ensures ∙ c.if-is_regular.true) c.run_end-e.ensures c.word_token.ensures.2 c.word_token.ensures.0; on = λ z. omega (arith, c.skip-k.ensures.1, c.run_end-e.ensures.on, c.word_token.ensures.2); in! = omega (arith, c.run_end-e.ensures.in!, c.word_token.ensures.2) }
+    let s = sym c.skip-text.ensures ∙ c.in_ok-b.ensures.cases.0 in
+    let g = sym c.is_regular.ensures ∙ c.if-is_regular.true in
+    let n : 1 + c.run_length.result ≡ run_length (c.in_ok-b.field-0-0.now ∷ c.in_ok-b.rest.now) = ap (λ (k : ℕ). 1 + k) c.run_length.ensures.is ∙ sym (run-more _ _ g) in
+    record {
+      tokens =
+          ap (λ (t : Token). t ∷ lexed gap c.split_at.result.1.now) c.word_token.ensures
+          ∙ word-next c.args.text.now _ _ s g _ _ (rw (c.in_ok-b.ensures.cases.0, n) at c.split_at.ensures.front ∙ run-taken _)
+          (rw (c.in_ok-b.ensures.cases.0, n) at c.split_at.ensures.back ∙ run-dropped _);
+      shorter =
+          omega (arith, skipped-shorter false c.args.text.now, ap length c.skip-text.ensures, c.split_at.ensures.back_len);
+    }
 
 pub returns : goal.returns
 returns c =
-    record { tokens = brace-next c.args.text.now c.args.i c.skip-k.result c.skip-k.ensures.0 (record { found = true; code = c.brace_code-c.result; value = pos 0; at = c.skip-k.result + 1 }) c.if-text-k.false refl (sym c.is_regular.ensures ∙ c.if-is_regular.false) refl (c.brace_code-c.ensures (pos 0)); on = λ z. omega (arith, c.skip-k.ensures.1); in! = omega arith }
+    let s = sym c.skip-text.ensures ∙ c.in_ok-b.ensures.cases.0 in
+    record {
+      tokens = ap (λ (t : Token). t ∷ lexed gap c.in_ok-b.rest.now) c.brace_token.ensures ∙ brace-next c.args.text.now _ _ s (sym c.is_regular.ensures ∙ c.if-is_regular.false);
+      shorter = omega (arith, skipped-shorter false c.args.text.now, ap length s);
+    }

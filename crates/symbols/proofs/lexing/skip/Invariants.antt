@@ -1,11 +1,9 @@
--- What is left to skip from k on is what there was to skip.
-use Prim.Native.Nat.{◌-◌}
-use lib.ListN.{length}
-use Rattle.symbols.proofs.Lexed.{Skipping}
+-- What is left to skip from i on is what there was to skip.
+use mathlib.Core.Path.{◌≡◌}
+use mathlib.Core.Bool.{false}
+use lib.ListN.{drop}
+use Rattle.symbols.specs.Lexing.{skipped}
 use Rattle.symbols.proofs.lexing.skip.Given as goal
 
-abbrev pub invariant-loop-k : goal.invariant-loop-k
-invariant-loop-k l = Skipping l.text l.i l.k l.commented
-
-abbrev pub decreases-loop-k : goal.decreases-loop-k
-decreases-loop-k l = length l.text - l.k
+abbrev pub invariant-loop-i : goal.invariant-loop-i
+invariant-loop-i l = skipped l.commented (drop l.i l.text) ≡ skipped false l.text

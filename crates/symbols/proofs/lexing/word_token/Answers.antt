@@ -1,20 +1,21 @@
--- A number that fits, one that does not, or a name.
-use mathlib.Core.Path.{refl, sym, ◌∙◌}
-use Rattle.fixed.proofs.Signs.{signed_is}
-use Rattle.symbols.proofs.Names.{word_number, word-large, word-name}
+-- A run that begins as no number does is a name, and so is one that is no number.
+use mathlib.Core.Path.{◌≡◌, sym, ap, ◌∙◌}
+use mathlib.Core.Bool.{false}
+use mathlib.Core.List.{List}
+use Prim.Native.Nat.{ℕ}
+use Rattle.lexical.specs.Numbers.{numeric, number_of}
+use Rattle.symbols.specs.Tokens.{word_token}
+use Rattle.symbols.proofs.Names.{named_only, named_none}
+use Rattle.symbols.proofs.Lexed.{empty}
 use Rattle.symbols.proofs.lexing.word_token.Goals as goal
-
-pub value_of-v-requires : goal.value_of-v-requires
-value_of-v-requires c = sym c.number_fits.ensures ∙ c.if-number_fits.true
-
-pub returns-then-number_fits : goal.returns-then-number_fits
-returns-then-number_fits c =
-    (word_number _ _ c.number_of-n.ensures (sym c.is_number.ensures ∙ c.if-is_number.true) (sym c.number_fits.ensures ∙ c.if-number_fits.true) _ (signed_is _ c.value_of-v.type_inv c.value_of-v.ensures), refl, refl)
-
-pub returns-then-is_number : goal.returns-then-is_number
-returns-then-is_number c =
-    (word-large _ _ c.number_of-n.ensures (sym c.is_number.ensures ∙ c.if-is_number.true) (sym c.number_fits.ensures ∙ c.if-number_fits.false), refl, refl)
+use Rattle.symbols.proofs.lexing.word_token.Goals.{in-Some+then-begins_number+else-is_number, in-Some+else-begins_number, in_default}
 
 pub returns : goal.returns
+unfolding word_token
 returns c =
-    (word-name _ _ c.number_of-n.ensures (sym c.is_number.ensures ∙ c.if-is_number.false) _ c.named-k.ensures, refl, refl)
+    let e : numeric (number_of c.args.word.now).part ≡ false = elim c.match-split_first.branch [
+      | in-Some+then-begins_number+else-is_number w ↦ rw w.number_of-n.ensures at (sym w.is_number.ensures ∙ w.if-is_number.false)
+      | in-Some+else-begins_number w ↦ ap (λ (l : List ℕ). numeric (number_of l).part) w.in-Some.ensures.cases.0 ∙ named_only _ _ (sym w.begins_number.ensures ∙ w.if-begins_number.false)
+      | in_default w ↦ ap (λ (l : List ℕ). numeric (number_of l).part) (empty _ w.in_default.ensures.cases) ∙ named_none
+    ] in
+    rw e c.named.ensures

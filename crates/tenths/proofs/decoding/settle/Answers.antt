@@ -4,7 +4,6 @@ use Rattle.tenths.proofs.Settled.{settled-shared}
 use Prim.Native.Nat.{◌/◌}
 use mathlib.Core.Path.{refl, ◌∙◌}
 use native.Mathlib.Omega.{arith}
-use borrow.Author.Rules.{rules}
 use Rattle.tenths.proofs.decoding.settle.Goals as goal
 
 pub returns-then-p-eq0 : goal.returns-then-p-eq0
@@ -15,6 +14,6 @@ pub returns-then-p-eq0-2 : goal.returns-then-p-eq0-2
 returns-then-p-eq0-2 c =
     let s = c.args in c.bisect-then-p-eq0-2.ensures ∙ settled-shared 5 2 (s.p / 5) s.u s.p (omega arith) refl (omega arith)
 
-pub returns : goal.returns
+pub returns-else-p-eq0-2 : goal.returns-else-p-eq0-2
 unfolding settled
-returns c = search rules
+returns-else-p-eq0-2 c = c.bisect-else-p-eq0-2.ensures

@@ -1,7 +1,7 @@
 -- `make`: the space's own block, its palette's and their brackets are what the definition makes.
-use mathlib.Core.Path.{refl, sym, ◌∙◌}
+use mathlib.Core.Path.{refl, sym}
 use native.Mathlib.Omega.{arith}
-use lib.ListN.{take}
+use borrow.Author.Rules.{rules}
 use Rattle.lexer.specs.Scans.{scan_at}
 use Rattle.reader.specs.Kept.{parser_at}
 use Rattle.reader.proofs.Makings.{made-start}
@@ -15,8 +15,7 @@ pub overflow_add-next : goal.overflow_add-next
 overflow_add-next c = omega (arith, c.requires.opens_len.1.1)
 
 pub put_run-requires : goal.put_run-requires
-put_run-requires c =
-    (omega (arith, c.requires.opens_len.1.1), (c.blocks-1.given ∙ c.requires.opens_len.1.0, c.held-n.ensures.within))
+put_run-requires c = (omega (arith, c.requires.opens_len.1.1), search rules)
 
 pub overflow_add-k : goal.overflow_add-k
 overflow_add-k c = omega (arith, c.requires.opens_len.1.1)
@@ -33,8 +32,8 @@ returns c =
     let names = c.args.names.now in
     let opens = c.args.opens.now in
     let blocks = c.args.blocks.now in
-    made (parser_at h values marks names opens blocks) (scan_at c.args.l word).word opens blocks (take c.held-n.result word) h.next c.args.k c.start_of-at.result c.record_of-r.result
-    refl (sym c.held-n.ensures.is) c.requires.k_value (c.record_of-r.ensures marks opens blocks)
+    made (parser_at h values marks names opens blocks) (scan_at c.args.l word).word opens blocks c.held-palette.result.now h.next c.args.k c.start_of-at.result c.record_of-r.result
+    refl (sym c.held-palette.ensures) c.requires.k_value (c.record_of-r.ensures marks opens blocks)
     (made-start h marks names c.slot.result c.depth.result c.slot.ensures.is c.depth.ensures.is c.start_of-at.result (c.start_of-at.ensures names))
     (omega (arith, c.requires.opens_len.1.1, c.requires.opens_len.0)) (omega (arith, c.requires.opens_len.1.1, c.requires.opens_len.1.0))
     c.put_block.ensures c.put_run.ensures c.put_opens.ensures

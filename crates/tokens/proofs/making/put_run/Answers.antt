@@ -1,22 +1,17 @@
-use Prim.Native.Nat.{ℕ, ◌+◌, ◌*◌}
-use mathlib.Core.Path.{◌≡◌, refl, ap, ◌∙◌}
-use mathlib.Core.List.{◌++◌}
+-- A turn stores the block of the next part: `run-turn` of Runs.
+use mathlib.Core.Path.{ap, ◌∙◌}
 use native.Mathlib.Omega.{arith}
-use lib.ListN.{take, drop}
-use Rattle.reader.specs.Spaces.{run_of}
-use Rattle.tokens.proofs.Runs.{run-turn, run-start}
-use borrow.Author.Rules.{rules}
+use Prim.Native.Nat.{◌*◌, ◌+◌}
+use Rattle.reader.specs.Spaces.{palette_of}
+use Rattle.tokens.proofs.Runs.{run-turn, run-start, drop_least}
 use Rattle.tokens.proofs.making.put_run.Goals as goal
 
 pub loop-j-init : goal.loop-j-init
-loop-j-init c =
-    (omega arith, (refl, run-start c.args.blocks.now (take c.args.n c.args.word.now) c.args.own))
+loop-j-init c = run-start c.args.blocks.now c.args.palette.now c.args.own
 
 pub loop-j-preserved : goal.loop-j-preserved
 loop-j-preserved c =
-    (omega arith, (search rules, run-turn c.args.blocks.now (take c.args.n c.args.word.now) c.args.own c.loop-j.j (omega arith) c.loop-j.invariant.1.1 c.palette_of-r.ensures c.put_block.ensures))
-
-pub returns : goal.returns
-returns c =
-    let e : c.loop-j.j ≡ c.args.k = omega arith in
-    c.loop-j.invariant.1.1 ∙ ap (λ (i : ℕ). take (512 * c.args.own) c.args.blocks.now ++ (run_of c.args.own i (take c.args.n c.args.word.now) ++ drop (512 * (c.args.own + i)) c.args.blocks.now)) e
+    let p = c.args.palette.now in
+    let j = c.loop-j.j in
+    run-turn c.args.blocks.now p c.args.own j (omega arith) c.loop-j.invariant
+    (c.palette_of.ensures ∙ ap (palette_of (c.args.own + j)) (drop_least p (504 * j) c.min.result c.min.ensures)) c.put_block.ensures

@@ -10,21 +10,16 @@ use Rattle.values.proofs.rows.fill_row.Goals as goal
 
 pub loop-k-init : goal.loop-k-init
 unfolding filled
-loop-k-init c = (omega arith, λ s r. refl)
+loop-k-init c = λ s r. refl
 
-pub entry-x-requires : goal.entry-x-requires
-entry-x-requires c = (omega arith, omega arith, c.requires.2)
-
-pub loop-k-smaller : goal.loop-k-smaller
-loop-k-smaller c = omega arith
+pub entry-requires : goal.entry-requires
+entry-requires c = (omega arith, omega arith, c.requires.2)
 
 pub loop-k-preserved : goal.loop-k-preserved
 loop-k-preserved c =
     let few : c.loop-k.k < c.args.m = omega arith in
-    let component = sym (mul-add-mod_self_right c.args.row c.args.m c.loop-k.k ∙ mod-eq_of_lt few) in (
-      omega arith,
-      λ s r. filled-turn (λ j. entry_of c.args.page.now c.args.n s (c.args.row * c.args.m + j)) _ _ (c.loop-k.invariant.1 s r) (signed_is _ c.entry-x.type_inv (c.entry-x.ensures s c.args.m r component)),
-    )
+    let component = sym (mul-add-mod_self_right c.args.row c.args.m c.loop-k.k ∙ mod-eq_of_lt few) in
+    λ s r. filled-turn (λ j. entry_of c.args.page.now c.args.n s (c.args.row * c.args.m + j)) _ _ (c.loop-k.invariant s r) (signed_is _ c.entry.type_inv (c.entry.ensures s c.args.m r component))
 
 pub returns : goal.returns
-returns c = let e : c.loop-k.k ≡ c.args.m = omega arith in λ s r. c.loop-k.invariant.1 s r ∙ rw e
+returns c = let e : c.loop-k.k ≡ c.args.m = omega arith in λ s r. c.loop-k.invariant s r ∙ rw e

@@ -1,9 +1,0 @@
--- The one jump is set.
-use Prim.Native.Nat.{◌+◌, ◌-◌}
-use native.Mathlib.Omega.{arith}
-use Rattle.program.proofs.Taken.{grown-wait, if-ends, low-z}
-use Rattle.program.proofs.braces.end_if.Goals as goal
-
-pub returns : goal.returns
-returns c =
-    record { is = λ fs gs h. if-ends c.args.out.now c.patch.new.out c.args.n c.args.d c.waits.result (omega (arith, c.requires.0)) c.waits.ensures fs gs h c.args.f _ c.patch.ensures (low-z c.less-v.result (c.args.n - (c.args.f + 2)) c.less-v.ensures (omega (arith, c.less-v.ensures, c.requires.0, c.requires.1))); grown = grown-wait c.waits.result c.args.n c.args.c c.args.n c.args.d 0 0 0 c.waits.ensures (omega arith) c.requires.2 }

@@ -1,8 +1,0 @@
--- What was read, with another place in the ring.
-use mathlib.Core.Path.{refl}
-use Rattle.reader.specs.Kept.{took_at}
-use Rattle.reader.proofs.heads.with_frames.Goals as goal
-
-pub returns : goal.returns
-unfolding took_at
-returns c = λ values marks names opens page. refl

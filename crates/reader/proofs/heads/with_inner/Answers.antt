@@ -1,8 +1,0 @@
--- What was read, with another inner space.
-use mathlib.Core.Path.{refl}
-use Rattle.reader.specs.Kept.{took_at}
-use Rattle.reader.proofs.heads.with_inner.Goals as goal
-
-pub returns : goal.returns
-unfolding took_at
-returns c = λ values marks names opens page. refl

@@ -1,7 +1,0 @@
--- `ranges_in` has the four numbers of `four_in`, by their names as ranges.
-use Rattle.record.proofs.Fours.{ranged}
-use Rattle.record.proofs.read.ranges_in.Goals as goal
-
-pub returns : goal.returns
-returns c =
-    let t = c.struct_told-1.given in ranged _ t.0.1 t.1.0.1 t.1.1.0.1 t.1.1.1.0.1 c.four_in-q.ensures

@@ -1,7 +1,0 @@
--- `rgb_lawful`: each rule is a call.
-use Rattle.record.specs.Rules.{lawful}
-use Rattle.rules.proofs.rules.rgb_lawful.Goals as goal
-
-pub returns : goal.returns
-unfolding lawful
-returns c = cc
