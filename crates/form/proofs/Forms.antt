@@ -15,8 +15,9 @@ use Rattle.stack.specs.Judging.{fits, wrong, judged}
 use Rattle.stack.specs.Programs.{Code}
 use Rattle.form.specs.Paths.{Place, unmet, met, at, ill, comes, checks, start_of, leaves_numbers}
 use Rattle.stack.specs.Flat.{flat}
-use Rattle.form.specs.Table.{kinds_at, place_by, places_from, bits_of, arrived, verdict}
-use Rattle.form.proofs.Tables.{same-long, kinds-length}
+use Rattle.form.specs.Table.{kinds_at, place_at, place_by, places_from, bits_of, arrived, verdict}
+use Rattle.form.proofs.Tables.{same-long, kinds-length, places-get}
+use Rattle.form.proofs.Turns.{came}
 use Rattle.form.proofs.Places.{unmets}
 use Rattle.form.proofs.Judged.{flat-judged}
 
@@ -65,6 +66,13 @@ same_some (Some m) n e = by (eqb m n) refl e
 
 pub other_some : (r : Option ℕ) (n : ℕ) → true ≡ not (option_eq eqb r (Some n)) → r ≡ Some n → ⊥
 other_some r n e f = true≢false (e ∙ (ap (λ (s : Option ℕ). not (option_eq eqb s (Some n))) f ∙ ap not (eq-eqb n n refl)))
+
+-- at the start the first place has the kinds of the numbers
+pub start-stands : (m taken n : ℕ) (b : Bool) (t : List ℕ) → arrived b (places_from t 0 (n + 1)) ≡ comes (bits_of (replicate taken (pos 0))) 0 (places_from (replicate m 0) 0 (n + 1)) → place_at t 0 ≡ met (replicate taken (pos 0))
+start-stands m taken n b t e =
+    let lt : 0 < n + 1 = omega arith in
+    sym (places-get t 0 (n + 1) 0 lt)
+    ∙ came (replicate taken (pos 0)) 0 (replicate (n + 1) unmet) (places_from t 0 (n + 1)) (starts taken n b (places_from t 0 (n + 1)) (e ∙ (λ i. comes (numbers-bits taken i) 0 (zeros-places m 0 (n + 1) i))))
 
 module _ (m taken n : ℕ) (b : Bool) (t : List ℕ) (e : arrived b (places_from t 0 (n + 1)) ≡ comes (bits_of (replicate taken (pos 0))) 0 (places_from (replicate m 0) 0 (n + 1))) (ws : List ℤ) (r : Option ℕ) (u : List ℕ) (v : verdict r u n ≡ checks ws 0 (at (places_from t 0 (n + 1)))) (count : ℕ) where
   checked : verdict r u n ≡ checks ws 0 (start_of taken n)

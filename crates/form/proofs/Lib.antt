@@ -4,6 +4,7 @@ pub mod Judged
 pub mod Turns
 pub mod Tables
 pub mod Passes
+pub mod Packed
 pub mod Forms
 pub mod Filled
 pub mod Parts

@@ -118,6 +118,10 @@ pub bits-kinds : (t : List ℕ) (p h : ℕ) → bits_of (kinds_at t p h) ≡ kin
 unfolding bits_of kinds_by
 bits-kinds t p h = bits_up (second_at t p) (h - low_part h) _ (bits_up (first_at t p / 128) (low_part h) [] refl)
 
+-- what is left under the top is still kinds
+pub bits-rest : (s : List ℤ) → bits_of s ≡ s → {u : List ℤ} → u ≡ drop 1 s → bits_of u ≡ u
+bits-rest s e u-is = ap bits_of u-is ∙ (bits-drop 1 s ∙ (ap (drop 1) e ∙ sym u-is))
+
 -- ---- an item's paths
 
 module _ (s : List ℤ) (p : ℕ) (T : List Place) where

@@ -6,11 +6,10 @@ use Prim.Native.Nat.{ℕ, zero, suc, ◌+◌, ◌-◌, ◌*◌, ◌/◌, ◌%◌
 use native.Mathlib.Omega.{arith}
 use lib.IntN.{ℤ, pos}
 use lib.Dec.{eqb, leb}
-use lib.ListN.{length, get_or, set, drop, drop_of_length-le, length-set}
+use lib.ListN.{length, get_or, set, length-set}
 use lib.Seq.{get_or-set_same, get_or-set_other}
 use borrow.Author.Tests.{lt-ltb, leb-false, eqb-true, eqb-false}
 use Rattle.stack.specs.Stack.{pushed, truth, same_z, same_kinds}
-use Rattle.fixed.specs.Values.{value}
 use Rattle.stack.specs.Memory.{stack_of}
 use Rattle.stack.specs.Operators.{is_true}
 use Rattle.form.specs.Paths.{Place, unmet, met, at, ill, comes}
@@ -223,20 +222,3 @@ low-stored t t' q ks s low p = by (eqb p q) refl
     by : (b : Bool) → eqb p q ≡ b → head_at t' p ≤ 101
     by true e = rw (eqb-true p q e) s.low
     by false e = let f : head_at t' p ≡ head_at t p = ap (λ (n : ℕ). n % 128) (s.but p (eqb-false p q e)).0 in omega (arith, low p)
-
--- one more of the top n + 1 compared
-pub same-step : (a b : List ℤ) (n : ℕ) → length a ≡ length b → n < length a → same_kinds (bits_of (drop n a)) (drop n b) ≡ (same_z (truth (is_true (value a n))) (value b n) && same_kinds (bits_of (drop (n + 1) a)) (drop (n + 1) b))
-unfolding bits_of same_kinds
-same-step [] b n e lt = absurd (omega arith)
-same-step (x ∷ xs) [] n e lt = absurd (omega arith)
-same-step (x ∷ xs) (y ∷ ys) zero e lt = refl
-same-step (x ∷ xs) (y ∷ ys) (suc n) e lt =
-    let f : length xs ≡ length ys = omega arith in
-    let g : n < length xs = omega arith in
-    same-step xs ys n f g ∙ ap (λ (k : ℕ). same_z (truth (is_true (value xs n))) (value ys n) && same_kinds (bits_of (drop k (x ∷ xs))) (drop k (y ∷ ys))) (let h : suc (n + 1) ≡ suc n + 1 = omega arith in h)
-
-pub same_all : (a b : List ℤ) (n : ℕ) → length a ≡ length b → length a ≤ n → true ≡ same_kinds (bits_of (drop n a)) (drop n b)
-unfolding bits_of same_kinds
-same_all a b n e le =
-    let m : length b ≤ n = omega arith in
-    sym ((λ i. same_kinds (bits_of (drop_of_length-le a le i)) (drop_of_length-le b m i)))

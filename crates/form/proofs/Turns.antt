@@ -1,11 +1,12 @@
 -- The checker's loop over a table of places: what a turn at `p` asks of the whole table.
-use mathlib.Core.Path.{◌≡◌, refl, sym, ap, ◌∙◌}
-use mathlib.Core.Bool.{Bool, true, false, cond}
+use mathlib.Core.Path.{◌≡◌, refl, sym, ap, ◌∙◌, subst}
+use mathlib.Core.Bool.{Bool, true, false, cond, true≢false}
 use mathlib.Core.List.{List, [], ◌∷◌}
 use Prim.Native.Nat.{ℕ, zero, suc, ◌+◌, ◌≤◌, ◌<◌}
 use native.Mathlib.Omega.{arith}
 use lib.IntN.{ℤ}
 use lib.ListN.{length, get_or, set, drop}
+use Rattle.stack.proofs.Same.{same-eq}
 use Rattle.stack.specs.Stack.{same_kinds}
 use Rattle.stack.specs.Judging.{wrong}
 use Rattle.stack.specs.Flat.{item_of}
@@ -34,6 +35,53 @@ unfolding comes
 comes-old ks js d [] h e = absurd (omega arith)
 comes-old ks js zero (p ∷ ps) h e = ap (λ (q : Place). meet ks q ps) e ∙ ap (λ (q : Place). cond (same_kinds ks js) (at (q ∷ ps)) ill) (sym e)
 comes-old ks js (suc d) (p ∷ ps) h e = let m : d < length ps = omega arith in ap (onto p) (comes-old ks js d ps m e) ∙ onto-cond p (same_kinds ks js) ps
+
+-- ---- where a path came the kinds are its own, and stay
+
+is_at : Places → Bool
+is_at (at ps) = true
+is_at ill = false
+
+list_of : Places → List Place
+list_of (at ps) = ps
+list_of ill = []
+
+pub no-ill : {ps : List Place} → at ps ≡ ill → ⊥
+unfolding is_at
+no-ill e = true≢false (ap is_at e)
+
+listed : {ps qs : List Place} → at ps ≡ at qs → ps ≡ qs
+unfolding list_of
+listed e = ap list_of e
+
+-- the places with one in front: those behind it are what a path makes of them
+behind : (p : Place) (P : Places) (ps : List Place) → at ps ≡ onto p P → (Q : List Place → Type 0) → ((qs : List Place) → at qs ≡ P → Q (p ∷ qs)) → Q ps
+behind p ill ps e Q f = absurd (no-ill e)
+behind p (at qs) ps e Q f = subst Q (sym (listed e)) (f qs refl)
+
+pub came : (ks : List ℤ) (d : ℕ) (ps ps' : List Place) → at ps' ≡ comes ks d ps → get_or ps' d unmet ≡ met ks
+unfolding comes
+came ks d [] ps' e = absurd (no-ill e)
+came ks zero (unmet ∷ ps) ps' e = ap (λ (l : List Place). get_or l 0 unmet) (listed e)
+came ks zero (met js ∷ ps) ps' e = by (same_kinds ks js) refl e
+  where
+    by : (b : Bool) → same_kinds ks js ≡ b → at ps' ≡ cond b (at (met js ∷ ps)) ill → get_or ps' 0 unmet ≡ met ks
+    by true s f = ap (λ (l : List Place). get_or l 0 unmet) (listed f) ∙ ap met (sym (same-eq ks js s))
+    by false s f = absurd (no-ill f)
+came ks (suc d) (p ∷ ps) ps' e = behind p (comes ks d ps) ps' e (λ l. get_or l (suc d) unmet ≡ met ks) (λ qs f. came ks d ps qs f)
+
+pub stays-met : (ks : List ℤ) (d r : ℕ) (ps ps' : List Place) → at ps' ≡ comes ks d ps → get_or ps r unmet ≡ met ks → get_or ps' r unmet ≡ met ks
+unfolding comes
+stays-met ks d r [] ps' e f = absurd (no-ill e)
+stays-met ks zero zero (unmet ∷ ps) ps' e f = ap (λ (l : List Place). get_or l 0 unmet) (listed e)
+stays-met ks zero (suc r) (unmet ∷ ps) ps' e f = ap (λ (l : List Place). get_or l (suc r) unmet) (listed e) ∙ f
+stays-met ks zero r (met js ∷ ps) ps' e f = by (same_kinds ks js) e
+  where
+    by : (b : Bool) → at ps' ≡ cond b (at (met js ∷ ps)) ill → get_or ps' r unmet ≡ met ks
+    by true g = ap (λ (l : List Place). get_or l r unmet) (listed g) ∙ f
+    by false g = absurd (no-ill g)
+stays-met ks (suc d) zero (p ∷ ps) ps' e f = behind p (comes ks d ps) ps' e (λ l. get_or l 0 unmet ≡ met ks) (λ qs g. f)
+stays-met ks (suc d) (suc r) (p ∷ ps) ps' e f = behind p (comes ks d ps) ps' e (λ l. get_or l (suc r) unmet ≡ met ks) (λ qs g. stays-met ks d r ps qs g f)
 
 -- ---- the table from a place on
 

@@ -79,6 +79,11 @@ abbrev pub arrived : Bool → List Place → Places
 arrived true ps = at ps
 arrived false ps = ill
 
+-- the same, of the place that a path came to, none where something was wrong
+abbrev pub left : Option ℕ → List Place → Places
+left None ps = ill
+left (Some q) ps = at ps
+
 -- where the paths from the item at p go: as Flat.leaves, of the whole table
 abbrev pub leaves_at : Item → List ℤ → ℕ → List Place → Places
 leaves_at (op o n) ks p ps = elim (typed o ks) [ fits js ↦ comes js (p + 1 + n) ps | wrong ↦ ill ]

@@ -1,6 +1,6 @@
 // Kinds as bits.
 ghost use Rattle.std.specs.Prelude.{◌≡◌, ◌≤◌, ◌<◌, ◌+◌, ◌-◌, eqb, length};
-ghost use Rattle.stack.specs.Stack.{most, truth};
+ghost use Rattle.stack.specs.Stack.{most, truth, same_kinds};
 ghost use Rattle.stack.specs.Operators.{is_true};
 ghost use Rattle.stack.specs.Memory.{stack_of};
 ghost use Rattle.form.specs.Table.{kinds_up, low_part, bits_of};
@@ -33,6 +33,21 @@ pub fn packed(kinds: &[i32], from: usize, to: usize) -> u64
         bits = 2 * bits + kind_bit(kinds[i]);
     }
     bits
+}
+
+// Are the kinds from..to of a stack those in bits, where the deepest stands first?
+pub fn is_packed(bits: u64, kinds: &[i32], from: usize, to: usize) -> bool
+    requires { (from ≤ to) × (to ≤ length kinds.now) }
+    ensures { result ≡ same_kinds (bits_of (stack_of kinds.now to)) (kinds_up bits (to - from) (bits_of (stack_of kinds.now from))) }
+{
+    let mut rest = bits;
+    for i in from..to {
+        if kind_bit(kinds[i]) != rest % 2 {
+            return false;
+        }
+        rest /= 2;
+    }
+    true
 }
 
 // n kinds in bits, on top of the stack.

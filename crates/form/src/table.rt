@@ -1,11 +1,11 @@
 // The table of places: two words for each, and what paths bring to them.
 ghost use Rattle.std.specs.Prelude.{◌≡◌, ◌≤◌, ◌+◌, ◌*◌, length, MatchOption};
-ghost use Rattle.stack.specs.Stack.{most, same_z, same_kinds};
+ghost use Rattle.stack.specs.Stack.{most, same_kinds};
 ghost use Rattle.form.specs.Table.{head_at, kinds_at, places_from, Low, bits_of, Stored, arrived};
 ghost use Rattle.form.specs.Paths.{comes};
 
-use crate::bits::{low_part, packed, unpack};
-use stack::{Stack, truth};
+use crate::bits::{is_packed, low_part, packed, unpack};
+use stack::Stack;
 
 // The height at place p, none where no path came yet.
 pub fn head(t: &[u64], p: usize) -> Option<usize>
@@ -41,36 +41,15 @@ fn store(t: &mut [u64], q: usize, stack: &Stack)
     t[2 * q + 1] = y;
 }
 
-// Are two kinds the same?
-fn same_kind(x: i32, y: i32) -> bool
-    ensures { result ≡ same_z x y }
-{
-    x == y
-}
-
-// Are the kinds of a those of b?
-pub fn alike(a: &Stack, b: &Stack) -> bool
-    ensures { result ≡ same_kinds (bits_of a.now) b.now }
-{
-    if a.height() != b.height() {
-        return false;
-    }
-    for n in 0..a.height() {
-        if !same_kind(truth(a.value_at(n) > 0), b.value_at(n)) {
-            return false;
-        }
-    }
-    true
-}
-
-// Are the kinds of row q, as many as the stack has, those of the stack?
-fn same(t: &[u64], q: usize, stack: &Stack) -> bool
+// Are the kinds of row q, as many as the stack has, those of the stack? They are compared where they stand, in the row.
+pub fn same(t: &[u64], q: usize, stack: &Stack) -> bool
     requires { 2 * q + 2 ≤ length t.now }
     ensures { result ≡ same_kinds (bits_of stack.now) (kinds_at t.now q (length stack.now)) }
 {
-    let mut row = Stack::new();
-    load(t, q, stack.height(), &mut row);
-    alike(stack, &row)
+    let kinds = stack.values();
+    let h = kinds.len();
+    let m = low_part(h);
+    is_packed(t[2 * q] / 128, kinds, 0, m) && is_packed(t[2 * q + 1], kinds, m, h)
 }
 
 // A path comes with the stack's kinds to place q of n.

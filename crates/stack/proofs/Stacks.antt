@@ -1,17 +1,19 @@
 -- The stack in an array: what a store, a pop and a read are of the list.
 use mathlib.Core.Path.{◌≡◌, refl, sym, ap, ◌∙◌}
+use mathlib.Core.Bool.{cond}
 use mathlib.Core.List.{List, [], ◌∷◌, ◌++◌, append_assoc, reverse}
+use lib.Dec.{ltb}
 use Prim.Native.Nat.{ℕ, zero, suc, ◌+◌, ◌-◌, ◌%◌, ◌≤◌, ◌<◌}
 use native.Mathlib.Nat.{mod-lt}
 use native.Mathlib.Omega.{arith}
 use lib.IntN.{ℤ, pos, negsuc}
-use lib.ListN.{length, get_or, set, take, drop, length-append, length-drop, length-take, length-set, take-append-drop, get_or-eq_default}
-use lib.Seq.{take-nil, take-suc, take-add, take_all, get_or-set_same, get_or-set_other, length-take-le, drop-nil}
+use lib.ListN.{length, get_or, set, take, drop, length-append, length-drop, length-take, length-set, take-append-drop, get_or-eq_default, drop_of_length-le}
+use lib.Seq.{drop-cons, get_or-take, get_or-append-add, take-nil, take-suc, take-add, take_all, get_or-set_same, get_or-set_other, length-take-le, drop-nil}
 use borrow.Rule.Slice.PartMut.{put_mid}
-use Rattle.std.specs.List.{copy_within, slice_rotate_right, swap}
+use Rattle.std.specs.List.{slice_rotate_right, swap}
 use Rattle.std.specs.Int.{int_rem_euclid}
 use Rattle.std.proofs.lemmas.List.{reverse-append, length-reverse, take_at, drop_at}
-use Rattle.std.proofs.lemmas.List.Edits.{take-paste, swap_is}
+use Rattle.std.proofs.lemmas.List.Edits.{swap_is}
 use Rattle.std.proofs.lemmas.Slice.{take-put_mid}
 use borrow.Author.Tests.{le-ltb, lt-ltb, le-leb, lt-leb}
 use Rattle.stack.specs.Stack.{pushed, copied, rolled, turns}
@@ -180,38 +182,41 @@ pub rolled-none : (k : ℕ) (s : List ℤ) → s ≡ rolled 0 k s
 unfolding rolled
 rolled-none k s = let z : 0 ≤ length s = omega arith in simp (le-leb 0 (length s) z) (simp (drop-nil {A = ℤ} k, take-nil {A = ℤ} k))
 
--- ---- a copy of the top n
+-- ---- a copy, one value at a time
 
--- below lie p, on them x, which is n values
-copied_parts : (n : ℕ) (p x : List ℤ) → length x ≡ n → length (reverse (p ++ x)) + n ≤ 100 → reverse ((p ++ x) ++ x) ≡ copied n (reverse (p ++ x))
-unfolding copied
-copied_parts n p x e room =
-    let lx : length (reverse x) ≡ n = length-reverse x ∙ e in
-    let s : reverse (p ++ x) ≡ reverse x ++ reverse p = reverse-append p x in
-    let le : n ≤ length (reverse (p ++ x)) = omega (arith, ap length s, length-append (reverse x) (reverse p)) in
-    reverse-append (p ++ x) x
-    ∙ sym (simp (le-leb n (length (reverse (p ++ x))) le, le-leb (length (reverse (p ++ x)) + n) 100 room)
-    (ap (λ (z : List ℤ). z ++ reverse (p ++ x)) (ap (take n) s ∙ take_at (reverse x) (reverse p) n lx)))
+module _ (n : ℕ) (s : List ℤ) (hn : n ≤ length s) where
+  taken : length (take n s) ≡ n
+  taken = length-take-le n s hn
 
-pub copy_is : (a : List ℤ) (h n : ℕ) → h + n ≤ 100 → 100 ≤ length a → n ≤ h → stack_of (copy_within a (h - n) h h) (h + n) ≡ copied n (stack_of a h)
-copy_is a h n room le hn =
-    let en : h - (h - n) ≡ n = omega arith in
-    let ld : n ≤ length (drop (h - n) a) = rw length-drop (omega arith) in
-    let lx : length x ≡ n = length-take-le (h - (h - n)) (drop (h - n) a) (omega arith) ∙ en in
-    let lp : length p ≡ h - n = length-take-le (h - n) a (omega arith) in
-    let old : take h a ≡ p ++ x = ap (λ (m : ℕ). take m a) (let f : h ≡ (h - n) + (h - (h - n)) = omega arith in f) ∙ take-add (h - n) (h - (h - n)) a in
-    let new : take (h + n) (copy_within a (h - n) h h) ≡ (p ++ x) ++ x =
-    ap (λ (m : ℕ). take (h + m) (copy_within a (h - n) h h)) (sym en) ∙ (take-paste a h (drop (h - n) a) (h - (h - n)) (omega arith) (omega arith) ∙ ap (λ (z : List ℤ). z ++ x) old) in
-    let lpx : length (p ++ x) ≡ h = length-append p x ∙ (let f : length p + length x ≡ h = omega arith in f) in
-    let m : h ≤ length a = omega arith in
-    stack_is _ (h + n) new (length-append (p ++ x) x ∙ (let f : length (p ++ x) + length x ≡ h + n = omega arith in f))
-    ∙ (copied_parts n p x lx (rw length-reverse (omega arith)) ∙ ap (copied n) (sym (stack_reverse a h m ∙ ap reverse old)))
-  where
-    p : List ℤ
-    p = take (h - n) a
+  pub copy_start : s ≡ drop (n - 0) (take n s) ++ s
+  copy_start = let h : length (take n s) ≤ n - 0 = omega (arith, taken) in sym (ap (λ (l : List ℤ). l ++ s) (drop_of_length-le (take n s) h))
 
-    x : List ℤ
-    x = take (h - (h - n)) (drop (h - n) a)
+  module _ (room : length s + n ≤ 100) (i : ℕ) (lt : i < n) where
+    part : length (drop (n - i) (take n s)) ≡ i
+    part = length-drop (n - i) (take n s) ∙ (ap (λ (m : ℕ). m - (n - i)) taken ∙ (let e : n - (n - i) ≡ i = omega arith in e))
+
+    nth : value (drop (n - i) (take n s) ++ s) (n - 1) ≡ value s (n - (i + 1))
+    nth =
+        ap (value (drop (n - i) (take n s) ++ s)) (let e : n - 1 ≡ length (drop (n - i) (take n s)) + (n - (i + 1)) = omega (arith, part) in e)
+        ∙ get_or-append-add (drop (n - i) (take n s)) s (n - (i + 1)) (pos 0)
+
+    next : drop (n - (i + 1)) (take n s) ≡ value s (n - (i + 1)) ∷ drop (n - i) (take n s)
+    next =
+        let l : n - (i + 1) < length (take n s) = omega (arith, taken) in
+        let m : n - (i + 1) < n = omega arith in
+        drop-cons (take n s) (n - (i + 1)) (pos 0) l
+        ∙ (λ j. get_or-take n s (n - (i + 1)) (pos 0) m j ∷ drop ((let e : suc (n - (i + 1)) ≡ n - i = omega arith in e) j) (take n s))
+
+    pub copy-turn : {t u : List ℤ} → t ≡ drop (n - i) (take n s) ++ s → u ≡ pushed (value t (n - 1)) t → u ≡ drop (n - (i + 1)) (take n s) ++ s
+    unfolding pushed
+    copy-turn {t} {u} et eu =
+        let k : length (drop (n - i) (take n s) ++ s) < 100 = rw length-append (omega (arith, part)) in
+        eu ∙ (ap (λ (l : List ℤ). cond (ltb (length l) 100) (value l (n - 1) ∷ l) l) et
+        ∙ (simp (lt-ltb (length (drop (n - i) (take n s) ++ s)) 100 k) (ap (λ (z : ℤ). z ∷ (drop (n - i) (take n s) ++ s)) nth ∙ ap (λ (l : List ℤ). l ++ s) (sym next))))
+
+  pub copy-end : length s + n ≤ 100 → (i : ℕ) → n ≤ i → drop (n - i) (take n s) ++ s ≡ copied n s
+  unfolding copied
+  copy-end room i le = simp (le-leb n (length s) hn, le-leb (length s + n) 100 room) (ap (λ (m : ℕ). drop m (take n s) ++ s) (let e : n - i ≡ 0 = omega arith in e))
 
 pub copy-low : (n : ℕ) (s : List ℤ) → length s < n → s ≡ copied n s
 unfolding copied

@@ -1,5 +1,6 @@
 // The operand stack: an array, the deepest value first, and how many of it are on the stack. Clauses see the values, the top first.
-ghost use Rattle.std.specs.Prelude.{◌≡◌, ◌≤◌, [], drop, length};
+ghost use Rattle.std.specs.Prelude.{◌≡◌, ◌≤◌, ◌+◌, ◌-◌, [], drop, length};
+ghost use Rattle.std.specs.List.{slice_rotate_right};
 ghost use Rattle.fixed.specs.Values.{value};
 ghost use Rattle.stack.specs.Stack.{most, pushed, copied, rolled, turns};
 ghost use Rattle.stack.specs.Memory.{stack_of};
@@ -23,6 +24,17 @@ impl Model for Stack {
     ghost view = { λ s. stack_of s.items s.height };
 
     ghost invariant = { λ s. s.height ≤ most };
+}
+
+// The last k values go before the others. Three reversals do it in place: the library's rotation first makes room for thousands of bytes.
+fn turn(values: &mut [i32], k: usize)
+    requires { k ≤ length values.old }
+    ensures { values.new ≡ slice_rotate_right values.old k }
+{
+    let (front, back) = values.split_at_mut(values.len() - k);
+    front.reverse();
+    back.reverse();
+    values.reverse();
 }
 
 impl Stack {
@@ -107,14 +119,14 @@ impl Stack {
         }
     }
 
-    // The top n once more.
+    // The top n once more: n times the value n - 1 below the top. A copy within the array would need `memmove`, which a setter's board may lack.
     pub fn copy(&mut self, n: usize)
         ensures { self.new ≡ copied n self.old }
     {
         if n <= self.height && n <= MOST - self.height {
-            let from = self.height - n;
-            self.items.copy_within(from..self.height, self.height);
-            self.height += n;
+            for i in 0..n {
+                self.index(n - 1);
+            }
         }
     }
 
@@ -126,7 +138,7 @@ impl Stack {
             let k = j.rem_euclid(n as i32) as usize;
             let from = self.height - n;
             let top = &mut self.items[from..self.height];
-            top.rotate_right(k);
+            turn(top, k);
         }
     }
 }

@@ -5,6 +5,7 @@ use mathlib.Core.List.{List, ◌∷◌}
 use Prim.Native.Nat.{ℕ, zero, suc, ◌+◌, ◌≤◌, ◌<◌, min}
 use native.Mathlib.Omega.{arith}
 use native.Mathlib.Decide.{dec_lt}
+use native.Mathlib.Numerals.{add-one}
 use lib.IntN.{ℤ, pos}
 use lib.ListN.{length, set}
 use lib.Seq.{set_out}
@@ -12,7 +13,9 @@ use Rattle.fixed.specs.Numbers.{limited, outside}
 use Rattle.fixed.specs.Values.{value, filled}
 use Rattle.fixed.specs.declared.values.Colour.{Colour}
 use Rattle.fixed.proofs.Listed.{filled-length}
+use Rattle.stack.specs.Memory.{stack_of}
 use Rattle.stack.specs.Stack.{pushed}
+use Rattle.stack.proofs.Stacks.{stack_push}
 use borrow.Author.Tests.{lt-ltb}
 use Rattle.form.specs.Steps.{tints_in, tints_outside, form_step, form_values}
 
@@ -30,9 +33,14 @@ unfolding tints_in
 tints-length zero v = refl
 tints-length (suc k) v = ap suc (tints-length k v)
 
-pub tint-turn : (k : ℕ) (v : List ℤ) {s u : List ℤ} {x : ℤ} → k < 8 → s ≡ tints_in k v → u ≡ pushed x s → x ≡ limited (pos 0) (pos 1000000) (value v k) → u ≡ tints_in (k + 1) v
+-- of a stack in an array, and of one that is pushed on
+pub tint-turn : (a : List ℤ) (k : ℕ) (v : List ℤ) {x : ℤ} → k < length a → stack_of a k ≡ tints_in k v → x ≡ limited (pos 0) (pos 1000000) (value v k) → stack_of (set a k x) (k + 1) ≡ tints_in (k + 1) v
+unfolding tints_in
+tint-turn a k v {x} h e f = ap (stack_of (set a k x)) (add-one k) ∙ (stack_push a k x h ∙ ((λ i. f i ∷ e i) ∙ ap (λ (n : ℕ). tints_in n v) (let g : suc k ≡ k + 1 = omega arith in g)))
+
+pub tint-pushed : (k : ℕ) (v : List ℤ) {s u : List ℤ} {x : ℤ} → k < 100 → s ≡ tints_in k v → u ≡ pushed x s → x ≡ limited (pos 0) (pos 1000000) (value v k) → u ≡ tints_in (k + 1) v
 unfolding tints_in pushed
-tint-turn k v {s} {u} {x} h e f g =
+tint-pushed k v {s} {u} {x} h e f g =
     let l : length s < 100 = omega (arith, ap length e, tints-length k v) in
     f ∙ (simp (lt-ltb (length s) 100 l) ((λ i. g i ∷ e i) ∙ ap (λ (n : ℕ). tints_in n v) (let d : suc k ≡ k + 1 = omega arith in d)))
 

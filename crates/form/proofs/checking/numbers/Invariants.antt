@@ -5,4 +5,4 @@ use lib.ListN.{replicate}
 use Rattle.form.proofs.checking.numbers.Given as goal
 
 abbrev pub invariant-loop-i : goal.invariant-loop-i
-invariant-loop-i l = l.kinds ≡ replicate l.i (pos 0)
+invariant-loop-i l = l.stack ≡ replicate l.i (pos 0)

@@ -22,16 +22,17 @@ returns-in_err-head-clause-is c =
 pub returns-in_err-item-clause-is : goal.returns-in_err-item-clause-is
 returns-in_err-item-clause-is c =
     ap (λ (r : Option ℕ). passed r c.args.words.now c.args.p (places_from c.args.t.now 0 (length c.args.words.now + 1))) c.from_residual-in_err-item.ensures
-    ∙ pass-ill c.args.words.now c.args.t.now c.args.p c.requires.0 c.args.m c.if-m-gt0.false c.in_ok-head.field-0 c.in_ok-head.ensures c.in_err-item.ensures c.load.ensures refl
+    ∙ pass-ill c.args.words.now c.args.t.now c.args.p c.requires.0 c.args.m c.if-m-gt0.false c.in_ok-head.field-0 c.in_ok-head.ensures c.in_err-item.ensures c.bring.ensures refl
 
 pub leave-requires : goal.leave-requires
 leave-requires c =
-    (c.requires.1, c.requires.2, omega (arith, c.requires.0), ap bits_of c.load.ensures ∙ (bits-kinds c.args.t.now c.args.p c.in_ok-head.field-0 ∙ sym c.load.ensures))
+    (c.requires.1, c.requires.2, omega (arith, c.requires.0), ap bits_of c.bring.ensures ∙ (bits-kinds c.args.t.now c.args.p c.in_ok-head.field-0 ∙ sym c.bring.ensures))
 
-pub returns-then-leave-clause-is : goal.returns-then-leave-clause-is
-returns-then-leave-clause-is c =
-    pass-item c.args.words.now c.args.t.now c.args.p c.requires.0 c.args.m c.if-m-gt0.false c.in_ok-head.field-0 c.in_ok-head.ensures c.in_ok-item.ensures c.load.ensures c.if-leave.ensures.is c.width.ensures
+pub returns-in_err-held-clause-is : goal.returns-in_err-held-clause-is
+returns-in_err-held-clause-is c =
+    ap (λ (r : Option ℕ). passed r c.args.words.now c.args.p (places_from c.leave.new.t 0 (length c.args.words.now + 1))) c.from_residual-in_err-held.ensures
+    ∙ pass-ill c.args.words.now c.args.t.now c.args.p c.requires.0 c.args.m c.if-m-gt0.false c.in_ok-head.field-0 c.in_ok-head.ensures c.in_ok-item.ensures c.bring.ensures c.in_err-held.ensures.is
 
-pub returns-else-leave-clause-is : goal.returns-else-leave-clause-is
-returns-else-leave-clause-is c =
-    pass-ill c.args.words.now c.args.t.now c.args.p c.requires.0 c.args.m c.if-m-gt0.false c.in_ok-head.field-0 c.in_ok-head.ensures c.in_ok-item.ensures c.load.ensures c.if-leave.ensures.is
+pub returns-clause-is : goal.returns-clause-is
+returns-clause-is c =
+    pass-item c.args.words.now c.args.t.now c.args.p c.requires.0 c.args.m c.if-m-gt0.false c.in_ok-head.field-0 c.in_ok-head.ensures c.in_ok-item.ensures c.bring.ensures c.in_ok-held.ensures.is c.width.ensures

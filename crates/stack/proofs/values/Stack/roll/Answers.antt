@@ -21,7 +21,7 @@ returns-then-n-self c =
     let s = c.self.inside in
     let k : nat_abs (to_z w32 (of_z w32 c.rem_euclid-k.result)) ≡ turns c.args.j c.args.n =
     ap nat_abs (signed_is c.rem_euclid-k.result c.rem_euclid-k.type_inv (c.rem_euclid-k.ensures.value ∙ (λ i. int_rem_euclid (signed_back c.ranges.j i) (to_z_pos w32 c.args.n (omega arith) i)) ∙ turns_is c.args.j c.args.n)) in
-    roll_is s.items c.rotate_right.new.self s.height c.args.n (turns c.args.j c.args.n) (omega arith) c.if-n-self.true (turns_le c.args.j c.args.n c.if-n-gt0.true) (c.rotate_right.ensures.after ∙ ap (slice_rotate_right (mid_of (s.height - c.args.n) (s.height - (s.height - c.args.n)) s.items)) k) ∙ ap (rolled c.args.n (turns c.args.j c.args.n)) c.self.view_is
+    roll_is s.items c.turn.new.values s.height c.args.n (turns c.args.j c.args.n) (omega arith) c.if-n-self.true (turns_le c.args.j c.args.n c.if-n-gt0.true) (c.turn.ensures ∙ ap (slice_rotate_right (mid_of (s.height - c.args.n) (s.height - (s.height - c.args.n)) s.items)) k) ∙ ap (rolled c.args.n (turns c.args.j c.args.n)) c.self.view_is
 
 pub returns-else-n-gt0 : goal.returns-else-n-gt0
 returns-else-n-gt0 c =
