@@ -2,13 +2,28 @@
 use mathlib.Core.Path.{◌≡◌, sym, ap, ◌∙◌}
 use mathlib.Core.List.{List, ◌++◌}
 use Rattle.std.specs.Prelude.{Result, Ok, Err}
-use Prim.Native.Nat.{ℕ, ◌/◌}
-use lib.ListN.{length, drop, get_or}
+use Prim.Native.Nat.{ℕ, ◌+◌, ◌/◌, ◌≤◌, ◌<◌}
+use native.Mathlib.Omega.{arith}
+use lib.ListN.{length, set, take, drop, get_or}
+use lib.Seq.{sets, sets-eq, length-take-le}
+use Rattle.reader.proofs.Rings.{name-turn}
 use Rattle.page.specs.Outcomes.{Outcome, accepted, refused}
 use Rattle.reader.specs.Spaces.{Parser}
 use Rattle.reader.specs.Texts.{Answer, page, refusal, room_after, judged}
 use Rattle.judging.specs.declared.types.TextRefusal.{TextRefusal}
 use Rattle.judging.specs.Replies.{replied, Ends}
+
+-- ---- the copy
+
+pub copy-turn : (d b : List ℕ) (i : ℕ) {x : List ℕ} → i < length b → x ≡ sets d 0 (take i b) → set x i (get_or b i 0) ≡ sets d 0 (take (i + 1) b)
+copy-turn d b i {x} h e = let z : 0 + i ≡ i = omega arith in ap (λ (k : ℕ). set x k (get_or b i 0)) (sym z) ∙ name-turn d 0 b i h e
+
+pub copied : (d b : List ℕ) (n i : ℕ) {x : List ℕ} → i ≡ n → n ≤ length d → n ≤ length b → x ≡ sets d 0 (take i b) → x ≡ take n b ++ drop n d
+copied d b n i e o p q =
+    let l : length (take n b) ≡ n = length-take-le n b p in
+    let z : 0 + length (take n b) ≡ n = omega arith in
+    let r : 0 + length (take n b) ≤ length d = omega arith in
+    q ∙ ap (λ (k : ℕ). sets d 0 (take k b)) e ∙ sets-eq (take n b) d 0 r ∙ ap (λ (k : ℕ). take n b ++ drop k d) z
 
 -- ---- what each way out comes to
 

@@ -21,11 +21,14 @@ fn bracket_of(opens: &[u32], n: u8, b: u32) -> u32
 }
 
 // Copies the page to the room.
+// Kept: a loop, for the library's copy needs `memmove` here, which an archive for C may lack.
 fn write_page(out: &mut [u8], page: &[u8])
     requires { length page.now ≤ length out.old }
     ensures { out.new ≡ page.now ++ drop (length page.now) out.old }
 {
-    out[..page.len()].copy_from_slice(page);
+    for i in 0..page.len() {
+        out[i] = page[i];
+    }
 }
 
 // Judges the blocks that were made: how many blocks the page has.

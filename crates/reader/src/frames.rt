@@ -56,7 +56,7 @@ pub fn open_slot(marks: &mut [u32], names: &mut [u8], x: u8, at: u32)
 }
 
 // The space at place x gets the first n bytes of word as its name.
-// Kept: n beside word, for it is stored as the byte before the name.
+// Kept: n beside word, for it is stored as the byte before the name; and a loop, for the library's copy needs `memmove` here, which an archive for C may lack.
 pub fn name_slot(names: &mut [u8], x: u8, word: &[u8], n: u8)
     requires { (x < ring) × ((length names.old ≡ 128 * ring) × ((n ≤ 127) × (n ≤ length word.now))) }
     ensures { (marks : List ℕ) (k : ℕ) → k < ring → frames_at marks names.new x (suc k) ≡ named (take n word.now) (frames_at marks names.old x (suc k)) }
@@ -64,7 +64,9 @@ pub fn name_slot(names: &mut [u8], x: u8, word: &[u8], n: u8)
     let at = 128 * (x as usize);
     let m = n as usize;
     names[at] = n;
-    names[at + 1..at + 1 + m].copy_from_slice(&word[..m]);
+    for i in 0..m {
+        names[at + 1 + i] = word[i];
+    }
 }
 
 // How long the name of the innermost of n spaces is, which stands at place x; 0 where there is none.
