@@ -2,15 +2,15 @@
 use mathlib.Core.Path.{◌≡◌, refl, sym, ap, ◌∙◌}
 use mathlib.Core.Bool.{Bool, true, false, cond, not, ◌||◌, true≢false}
 use mathlib.Core.List.{List, [], ◌∷◌, ◌++◌, append_assoc, append-nil}
-use Prim.Native.Nat.{ℕ, suc, ◌+◌, ◌≤◌, ◌<◌}
+use Prim.Native.Nat.{ℕ, suc, ◌+◌, ◌-◌, ◌≤◌, ◌<◌}
 use native.Mathlib.Omega.{arith}
 use native.Mathlib.Numerals.{add-one}
 use borrow.Author.Tests.{ltb-false, eqb-true, eq-eqb, ne_eqb}
 use lib.Dec.{eqb, ltb}
 use Rattle.std.specs.Prelude.{Some, None}
 use Rattle.std.specs.Option.{unwrap_or}
-use lib.ListN.{length, take, drop, get_or, drop_of_length-le}
-use lib.Seq.{drop-cons}
+use lib.ListN.{length, take, drop, get_or, drop_of_length-le, length-drop}
+use lib.Seq.{drop-cons, drop-drop}
 use Rattle.std.specs.List.{position_or_len}
 use Rattle.lexical.specs.Chars.{white, delimiter, regular, line_end}
 use Rattle.symbols.specs.Tokens.{word_token, brace_token, gap, comment, run, between, lexed}
@@ -189,3 +189,27 @@ module _ (text l : List ℕ) (b : ℕ) (s : skipped false text ≡ b ∷ l) wher
 
   pub brace-next : regular b ≡ false → brace_token b ∷ lexed gap l ≡ lexed gap text
   brace-next g = sym ((gap-skips text).0 ∙ ap (lexed gap) s ∙ brace-law b l g (skipped-head false text b l s))
+
+-- ---- what follows a token is the end of the text
+
+pub skipped-part : (c : Bool) (l : List ℕ) → skipped c l ≡ drop (length l - length (skipped c l)) l
+unfolding skipped
+skipped-part c [] = refl
+skipped-part c (b ∷ l) = by (skipped-part (eqb (place_of c b) 1) l) (eqb (place_of c b) 2)
+  where
+    d : Bool
+    d = eqb (place_of c b) 1
+
+    by : skipped d l ≡ drop (length l - length (skipped d l)) l → (t : Bool) → cond t (b ∷ l) (skipped d l) ≡ drop (length (b ∷ l) - length (cond t (b ∷ l) (skipped d l))) (b ∷ l)
+    by on true = ap (λ (n : ℕ). drop n (b ∷ l)) (let e : 0 ≡ suc (length l) - suc (length l) = omega arith in e)
+    by on false =
+        let h : length (skipped d l) ≤ length l = skipped-shorter d l in
+        on ∙ ap (λ (n : ℕ). drop n (b ∷ l)) (let e : suc (length l - length (skipped d l)) ≡ suc (length l) - length (skipped d l) = omega arith in e)
+
+-- n bytes more are passed
+pub rest-part : (text : List ℕ) (n : ℕ) {s r : List ℕ} → s ≡ skipped false text → n ≤ length s → r ≡ drop n s → r ≡ drop (length text - length r) text
+rest-part text n {s} {r} e h f =
+    let le : length s ≤ length text = omega (arith, ap length e, skipped-shorter false text) in
+    let k : length r ≡ length s - n = ap length f ∙ length-drop n s in
+    let p : s ≡ drop (length text - length s) text = e ∙ (skipped-part false text ∙ ap (λ (x : List ℕ). drop (length text - length x) text) (sym e)) in
+    f ∙ (ap (drop n) p ∙ (drop-drop n (length text - length s) text ∙ ap (λ (m : ℕ). drop m text) (let g : length text - length s + n ≡ length text - length r = omega arith in g)))

@@ -1,5 +1,5 @@
 -- The tokens of a text one after the other: what stands before the next one, and where it ends.
-use Rattle.std.specs.Prelude.{ℕ, ◌<◌, ◌≡◌, Bool, true, false, cond, List, [], ◌∷◌, eqb, length, Option, Some, None, IfSome}
+use Rattle.std.specs.Prelude.{ℕ, ◌<◌, ◌-◌, ◌≡◌, Bool, true, false, cond, List, [], ◌∷◌, eqb, length, drop, Option, Some, None, IfSome}
 use Rattle.std.specs.Borrow.{Bor}
 use Rattle.lexical.specs.Chars.{white, regular, line_end}
 use Rattle.symbols.specs.Tokens.{Token, gap, lexed}
@@ -31,7 +31,8 @@ abbrev pub tokens_from : Option (Symbol × Bor (List ℕ)) → List Token
 tokens_from (Some r) = token_of r.0 ∷ lexed gap r.1.now
 tokens_from None = []
 
--- r is the first token of a text, with a shorter text after it
+-- r is the first token of a text, with the text after it: a shorter part of the text, at its end
 pub record Finds (text : List ℕ) (r : Option (Symbol × Bor (List ℕ))) : Type 0 where
   pub tokens : tokens_from r ≡ lexed gap text
   pub shorter : IfSome r (λ x. length x.1.now < length text)
+  pub part : IfSome r (λ x. x.1.now ≡ drop (length text - length x.1.now) text)
