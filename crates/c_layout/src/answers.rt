@@ -3,7 +3,7 @@ ghost use Rattle.std.specs.Prelude.{◌≡◌, ◌≤◌, ◌<◌, Err};
 ghost use Rattle.fixed.specs.Bytes.{blocks};
 ghost use Rattle.fixed.specs.Refusals.{number_of, refused_with};
 ghost use Rattle.block.specs.Single.{meaning as block_outcome};
-ghost use Rattle.ink_names.specs.Replies.{said, block_in, meaning as asked};
+ghost use Rattle.ink_names.specs.Replies.{said_of, block_in, meaning as asked};
 ghost use Rattle.page.specs.Outcomes.{meaning as judged};
 ghost use Rattle.recipe.specs.SpaceWrites.{meaning as wrote};
 ghost use Rattle.c_layout.specs.Replies.{verdict_of, wrote_of, in_halves};
@@ -52,21 +52,22 @@ pub fn done(t: Result<(), Refusal>) -> u64
     }
 }
 
-// The number of a page.
-fn page_code(page: Side) -> u32
-    ensures is { result ≡ page_code (said page) }
+// The number of a page, 0 of neither.
+fn page_code(page: Option<Side>) -> u32
+    ensures is { result ≡ page_code (said_of page) }
     ensures small { result ≤ 2 }
 {
     match page {
-        Side::Job => 1,
-        Side::House => 2,
+        None => 0,
+        Some(Side::Job) => 1,
+        Some(Side::House) => 2,
     }
 }
 
-// A page and a block of it, as the high half of a reply.
-pub fn on_page(page: Side, block: u32) -> u32
+// A page, none where it is neither, and a block of it, as the high half of a reply.
+pub fn on_page(page: Option<Side>, block: u32) -> u32
     requires { block < blocks }
-    ensures { result ≡ on_page (said page) block }
+    ensures { result ≡ on_page (said_of page) block }
 {
     page_code(page) * 65536 + block
 }
@@ -77,8 +78,11 @@ pub fn no_ink(error: AskError) -> u64
     ensures { result ≡ ink_of (asked (Err error)) }
 {
     match error {
-        AskError::JobRefused(e) => halves(e.refusal.number(), on_page(Side::Job, e.block)),
-        AskError::HouseRefused(e) => halves(e.refusal.number(), on_page(Side::House, e.block)),
-        AskError::NoSuchInk => halves(Refusal::NoSuchSpace.number(), 0),
+        AskError::JobRefused(e) => halves(e.refusal.number(), on_page(Some(Side::Job), e.block)),
+        AskError::HouseRefused(e) => halves(
+            e.refusal.number(),
+            on_page(Some(Side::House), e.block),
+        ),
+        AskError::NoSuchInk => halves(Refusal::NoSuchSpace.number(), on_page(None, 0)),
     }
 }

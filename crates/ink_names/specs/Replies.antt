@@ -1,5 +1,5 @@
 -- What asking for an ink by its name comes to (FORMAT.md, Inks by name).
-use Rattle.std.specs.Prelude.{ℕ, Result, Ok, Err}
+use Rattle.std.specs.Prelude.{ℕ, Option, None, Some, Result, Ok, Err}
 use Rattle.fixed.specs.Refusals.{number_of}
 use Rattle.ink_names.specs.declared.asked.Side.{Side}
 use Rattle.ink_names.specs.declared.asked.Side.TheVariants.{Job, House}
@@ -27,6 +27,11 @@ block_in (refusal number page block) = block
 abbrev pub said : Side → Page
 said Job = jobs
 said House = houses
+
+-- the same, where it may be neither page
+abbrev pub said_of : Option Side → Page
+said_of None = neither
+said_of (Some page) = said page
 
 abbrev pub meaning : Result Place AskError → Reply
 meaning (Ok f) = found (said f.page) f.block

@@ -2,10 +2,26 @@
 ghost use Rattle.std.specs.Prelude.{◌≡◌, ◌+◌, ◌/◌, ◌<◌, ◌≤◌, length};
 ghost use Rattle.page.specs.Outcomes.{accepted};
 ghost use Rattle.page.specs.Validation.{validated};
-ghost use Rattle.ink_names.specs.Names.{ink_at, name_start};
+ghost use Rattle.ink_names.specs.Names.{ink_at, name_start, same_name};
 ghost use Rattle.ink_names.specs.Parts.{PartOf};
 
 use record::{Body, NAME_FROM, body_at};
+
+// Whether two names are the same, byte by byte.
+// Kept: a function of its own over two names, so that a length that is not compared can be tried alone.
+fn is_same(s: &[u8], t: &[u8]) -> bool
+    ensures { result ≡ same_name s.now t.now }
+{
+    if s.len() != t.len() {
+        return false;
+    }
+    for k in 0..t.len() {
+        if s[k] != t[k] {
+            return false;
+        }
+    }
+    true
+}
 
 // Where the name of block n begins on its page.
 pub fn name_start(n: u32) -> usize
@@ -31,5 +47,5 @@ pub fn is_ink(page: &[u8], name: &[u8], n: u32) -> bool
     let Body::Separation(p) = body_at(page, n) else {
         return false;
     };
-    name_part(page, n, p.name_len as usize) == name
+    is_same(name_part(page, n, p.name_len as usize), name)
 }

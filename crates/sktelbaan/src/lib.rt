@@ -124,7 +124,7 @@ pub extern "C" fn sktelbaan_find_ink(
             let from = ink_names::name_start(found.block) as u32;
             let size = name.len() as u32;
             *place = [from, size];
-            halves(0, c_layout::on_page(found.page, found.block))
+            halves(0, c_layout::on_page(Some(found.page), found.block))
         }
         Err(error) => c_layout::no_ink(error),
     }

@@ -7,7 +7,7 @@ use Rattle.record.specs.declared.types.Body.{Body}
 use Rattle.record.specs.declared.types.Separation.{Separation as Ink}
 use Rattle.record.specs.declared.types.Body.TheVariants.{Free, CalGray, CalRgb, Lab, Indexed, Separation, Palette, Program, DeviceN}
 use Rattle.ink_names.specs.Names.{same_name, ink_named}
-use Rattle.ink_names.proofs.Named.{same-names, ink-by, name-room, ink-stands}
+use Rattle.ink_names.proofs.Named.{ink-by, name-room, ink-stands}
 use Rattle.ink_names.proofs.names.is_ink.Goals as goal
 
 -- no other is an ink
@@ -38,4 +38,4 @@ pub returns : goal.returns
 returns c =
     let a = c.args in
     let stands = ink-stands a.page.now c.requires.0 a.n c.requires.1 a.name.now _ (sym c.in-Separation.is ∙ c.body_at.ensures) in
-    same-names _ _ _ c.eq.ensures ∙ ap (λ (s : List ℕ). same_name s a.name.now) c.name_part.ensures.bytes ∙ sym stands
+    c.is_same.ensures ∙ ap (λ (s : List ℕ). same_name s a.name.now) c.name_part.ensures.bytes ∙ sym stands
