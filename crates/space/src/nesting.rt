@@ -204,6 +204,8 @@ pub fn plain_at(page: &[u8], n: u16) -> Level
     let l = level_at(page, n as u32);
     match l {
         Level::Plain(c, _) if !is_named(c) => l,
+        // Kept: an arm of its own, for it alone keeps a Separation from a Separation, and so from itself.
+        Level::Separation(_) => nothing(),
         _ => nothing(),
     }
 }
